@@ -1,0 +1,3 @@
+pub mod Floors
+pub mod Grid
+pub mod Sides
