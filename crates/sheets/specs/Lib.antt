@@ -1,0 +1,7 @@
+pub mod Faults
+pub mod Fields
+pub mod Numbers
+pub mod Opening
+pub mod Readers
+pub mod Readings
+pub mod Suits
