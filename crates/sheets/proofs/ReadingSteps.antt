@@ -4,6 +4,7 @@ use mathlib.Core.Bool.{Bool, true, false}
 use mathlib.Core.List.{List, [], _∷_}
 use Prim.Native.Nat.{ℕ, zero, suc, _+_, _-_, _*_, _<_, _≤_}
 use native.Mathlib.Omega.{arith}
+use denote.Ref.{RefT}
 use lib.Dec.{leb}
 use lib.ListN.{length, take, drop, length-drop}
 use Rattle.std.specs.declared.option.Option.{Option}
@@ -16,11 +17,12 @@ use Rattle.base.specs.declared.refusal.Refusal.the-variants.{Cut, Long}
 use Rattle.sheets.specs.declared.awaited.Awaited.{Awaited}
 use Rattle.sheets.specs.declared.awaited.Awaited.the-variants.{Floor, Preference, Call}
 use Rattle.sheets.specs.declared.fault.Fault.{Fault}
+use Rattle.sheets.specs.declared.field.Entry.{Entry}
 use Rattle.sheets.specs.declared.fault.Layer.the-variants.{Sheet}
 use Rattle.sheets.specs.Faults.{fault-at}
 use Rattle.sheets.specs.Fields.{Said, first-field, followed-by, field-says}
 use Rattle.sheets.specs.Opening.{awaited-after}
-use Rattle.sheets.specs.Readings.{Reading, faulty, then-reads, at-end, continued, reading, sheet-says, later-answers}
+use Rattle.sheets.specs.Readings.{Reading, ended, faulty, then-reads, at-end, continued, reading, too-long, sheet-says, first-answer, later-answers, plain-entry, plain-answer}
 
 -- the bytes after a field are fewer than the bytes from it on
 fewer : (r : Result Said Refusal) (rest : List ℕ) (n : ℕ) (x : Said × List ℕ) → followed-by r (drop n rest) ≡ Ok x → length (x .1) ≤ length rest
@@ -86,8 +88,46 @@ unfolding sheet-says
 says-short bs short = ap (λ (b : Bool). elim (elim b as (λ _. Option Fault) [ true ↦ None | false ↦ Some (fault-at Sheet 0 Long) ]) as (λ _. Reading)
     [ Some f ↦ faulty f | None ↦ reading (length bs) Floor (length bs) bs ]) (le-leb (length bs) 60000 short)
 
+pub says-long : (bs : List ℕ) (f : Fault) → Some f ≡ too-long bs → sheet-says bs ≡ faulty f
+unfolding sheet-says
+says-long bs f e = ap (λ (o : Option Fault). elim o as (λ _. Reading) [ Some f ↦ faulty f | None ↦ reading (length bs) Floor (length bs) bs ]) (sym e)
+
 -- at the end a reader answers the same for ever
 pub end-stays : (a : Awaited) (p : ℕ) → at-end a p ≡ later-answers (at-end a p)
 end-stays Floor p = refl
 end-stays Preference p = refl
 end-stays Call p = refl
+
+-- how many fields are left
+abbrev pub entries : Reading → ℕ
+entries ended = 0
+entries (faulty f) = 0
+entries (then-reads e rest) = suc (entries rest)
+
+clash : {X : Type 0} {Y : Type 0} {x : X} {y : Y} → _≡_ {A = Result X Y} (Ok x) (Err y) → ⊥
+clash e = let z : _≡_ {A = ℕ} 0 1 = cc in omega arith
+
+some-none : {X Y : Type 0} {x : X} → _≡_ {A = Result (Option X) Y} (Ok (Some x)) (Ok None) → ⊥
+some-none e = let z : _≡_ {A = ℕ} 0 1 = cc in omega arith
+
+-- what was left to read, from the answer; `later` is what is left then
+pub was-faulty : (r : Reading) (f : Fault) → Err f ≡ first-answer r → r ≡ faulty f
+was-faulty ended f e = absurd (clash (sym e))
+was-faulty (faulty g) f e = ap faulty (let h : g ≡ f = cc in h)
+was-faulty (then-reads x rest) f e = absurd (clash (sym e))
+
+pub was-ended : (r : Reading) (o : Option (Entry (RefT (List ℕ)))) → o ≡ None → plain-answer (Ok o) ≡ first-answer r → r ≡ ended
+was-ended r o none e = elim r as (λ r. Ok None ≡ first-answer r → r ≡ ended)
+    [ ended ↦ λ _. refl | faulty g ↦ λ e. absurd (clash e) | then-reads x rest ↦ λ e. absurd (some-none (sym e)) ]
+    (sym (ap (λ o. plain-answer (Ok o)) none) ∙ e)
+
+pub was-read : (r later : Reading) (o : Option (Entry (RefT (List ℕ)))) (x : Entry (RefT (List ℕ))) → o ≡ Some x → plain-answer (Ok o) ≡ first-answer r
+  → later ≡ later-answers r → r ≡ then-reads (plain-entry x) later
+was-read r later o x some e after = elim r as (λ r. Ok (Some (plain-entry x)) ≡ first-answer r → later ≡ later-answers r → r ≡ then-reads (plain-entry x) later)
+    [ ended ↦ λ e _. absurd (some-none e) | faulty g ↦ λ e _. absurd (clash e)
+    | then-reads y rest ↦ λ e l. let h : y ≡ plain-entry x = cc in ap (λ z. then-reads z rest) h ∙ ap (then-reads (plain-entry x)) (sym l) ]
+    (sym (ap (λ o. plain-answer (Ok o)) some) ∙ e) after
+
+-- a field more was read
+pub fewer-left : {r later : Reading} {x : Entry (List ℕ)} → r ≡ then-reads x later → entries later < entries r
+fewer-left e = omega (arith, ap entries e)

@@ -1,0 +1,6 @@
+// What a run sheet prints.
+pub mod lines;
+pub mod reports;
+pub mod stop;
+
+pub use reports::report;
