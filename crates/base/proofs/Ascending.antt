@@ -49,7 +49,7 @@ nearer p n a (x ∷ xs) each = ((omega (arith, each .0 .0), each .0 .1), nearer 
 
 -- n numbers from a on
 those-counting : (p : ℕ → Bool) (n a : ℕ) (xs : List ℕ) → Ascends a xs → Each (λ x. (x < a + n) × (p x ≡ true)) xs
-  → ((y : ℕ) → a ≤ y → y < a + n → p y ≡ true → Among y xs) → those p (counting a n) ≡ xs
+    → ((y : ℕ) → a ≤ y → y < a + n → p y ≡ true → Among y xs) → those p (counting a n) ≡ xs
 those-counting p zero a [] up each all = those-none p
 those-counting p zero a (x ∷ xs) up each all = absurd (omega (arith, up .0, each .0 .0))
 those-counting p (suc n) a [] up each all =
@@ -57,20 +57,20 @@ those-counting p (suc n) a [] up each all =
     those-skip p a (counting (a + 1) n) no-a ∙ those-counting p n (a + 1) [] tt tt (λ y l h t. all y (omega arith) (omega arith) t)
 those-counting p (suc n) a (x ∷ xs) up each all =
     ⊎-elim
-      (λ (l : a < x).
-        let no-a : p a ≡ false = false-by _ (λ t. ⊎-elim (λ (e : a ≡ x). omega arith) (λ i. omega (arith, among-above (x + 1) a xs (up .1) i)) (all a (omega arith) (omega arith) t)) in
-        those-skip p a (counting (a + 1) n) no-a
-        ∙ those-counting p n (a + 1) (x ∷ xs) (omega arith, up .1) (nearer p n a (x ∷ xs) each) (λ y l h t. all y (omega arith) (omega arith) t))
-      (λ (l : x ≤ a).
-        let e : x ≡ a = omega (arith, up .0) in
-        let yes-a : p a ≡ true = ap p (sym e) ∙ each .0 .1 in
-        let rest = those-counting p n (a + 1) xs (ascends-low (a + 1) (x + 1) xs (omega arith) (up .1)) (nearer p n a xs (each .1))
-            (λ y ly h t. ⊎-elim (λ (q : y ≡ x). absurd (omega arith)) (λ i. i) (all y (omega arith) (omega arith) t)) in
-        those-take p a (counting (a + 1) n) yes-a ∙ ap (λ ys. a ∷ ys) rest ∙ ap (λ b. b ∷ xs) (sym e))
-      (cases-lt a x)
+    (λ (l : a < x).
+    let no-a : p a ≡ false = false-by _ (λ t. ⊎-elim (λ (e : a ≡ x). omega arith) (λ i. omega (arith, among-above (x + 1) a xs (up .1) i)) (all a (omega arith) (omega arith) t)) in
+    those-skip p a (counting (a + 1) n) no-a
+    ∙ those-counting p n (a + 1) (x ∷ xs) (omega arith, up .1) (nearer p n a (x ∷ xs) each) (λ y l h t. all y (omega arith) (omega arith) t))
+    (λ (l : x ≤ a).
+    let e : x ≡ a = omega (arith, up .0) in
+    let yes-a : p a ≡ true = ap p (sym e) ∙ each .0 .1 in
+    let rest = those-counting p n (a + 1) xs (ascends-low (a + 1) (x + 1) xs (omega arith) (up .1)) (nearer p n a xs (each .1))
+    (λ y ly h t. ⊎-elim (λ (q : y ≡ x). absurd (omega arith)) (λ i. i) (all y (omega arith) (omega arith) t)) in
+    those-take p a (counting (a + 1) n) yes-a ∙ ap (λ ys. a ∷ ys) rest ∙ ap (λ b. b ∷ xs) (sym e))
+    (cases-lt a x)
 
 pub those-below : (p : ℕ → Bool) (n : ℕ) (xs : List ℕ) → Ascends 0 xs → Each (λ x. (x < n) × (p x ≡ true)) xs
-  → ((y : ℕ) → y < n → p y ≡ true → Among y xs) → those p (below n) ≡ xs
+    → ((y : ℕ) → y < n → p y ≡ true → Among y xs) → those p (below n) ≡ xs
 unfolding below
 those-below p n xs up each all =
     those-counting p n 0 xs up (from-zero p n xs each) (λ y low h t. all y (omega arith) t)

@@ -120,16 +120,16 @@ module _ (w h : ℕ) (wide : 2 ≤ w) (high : 2 ≤ h) (small : w * h ≤ 255) w
 
     nearer-place : (x ≡ a → y ≡ b → ⊥) → Nearer (open-floor w h) (place w x y) (place w a b)
     nearer-place differ = ⊎-elim
-      (λ (ex : x ≡ a). ⊎-elim (λ ey. absurd (differ ex ey))
-          (⊎-elim (λ (l : y < b). to x (y + 1) lx (omega arith) (omega arith) (omega arith)) (λ (l : b < y). to x (y - 1) lx (omega arith) (omega arith) (omega arith)))
-          (cases-order y b))
-      (⊎-elim (λ (l : x < a). to (x + 1) y (omega arith) ly (omega arith) (omega arith)) (λ (l : a < x). to (x - 1) y (omega arith) ly (omega arith) (omega arith)))
-      (cases-order x a)
+        (λ (ex : x ≡ a). ⊎-elim (λ ey. absurd (differ ex ey))
+        (⊎-elim (λ (l : y < b). to x (y + 1) lx (omega arith) (omega arith) (omega arith)) (λ (l : b < y). to x (y - 1) lx (omega arith) (omega arith) (omega arith)))
+        (cases-order y b))
+        (⊎-elim (λ (l : x < a). to (x + 1) y (omega arith) ly (omega arith) (omega arith)) (λ (l : a < x). to (x - 1) y (omega arith) ly (omega arith) (omega arith)))
+        (cases-order x a)
 
   nearer : (t g : ℕ) → t < w * h → g < w * h → (t ≡ g → ⊥) → Nearer (open-floor w h) t g
   nearer t g lt lg differ =
       let n = nearer-place (t % w) (t / w) (g % w) (g / w) (col-below t) (row-below t lt) (col-below g) (row-below g lg)
-          (λ ex ey. differ (sym (of-place t) ∙ ap (λ x. place w x (t / w)) ex ∙ ap (λ y. place w (g % w) y) ey ∙ of-place g)) in
+      (λ ex ey. differ (sym (of-place t) ∙ ap (λ x. place w x (t / w)) ex ∙ ap (λ y. place w (g % w) y) ey ∙ of-place g)) in
       subst (λ (s : ℕ). Nearer (open-floor w h) s g) (of-place t) (subst (λ (u : ℕ). Nearer (open-floor w h) (place w (t % w) (t / w)) u) (of-place g) n)
 
   reached : Farthest (open-floor w h)
@@ -143,11 +143,10 @@ module _ (w h : ℕ) (wide : 2 ≤ w) (high : 2 ≤ h) (small : w * h ≤ 255) w
 
   -- the tiles around t
   module _ (t : ℕ) (lt : t < w * h) where
-
     joins-to : (u a b : ℕ) → place w a b ≡ u → a < w → b < h → apart (t % w) a + apart (t / w) b ≡ 1 → beside w h t u ≡ true
     joins-to u a b e la lb one =
         subst (λ (v : ℕ). beside w h v u ≡ true) (of-place t) (subst (λ (v : ℕ). beside w h (place w (t % w) (t / w)) v ≡ true) e
-          (joins-place (t % w) (t / w) a b (col-below t) (row-below t lt) la lb one))
+        (joins-place (t % w) (t / w) a b (col-below t) (row-below t lt) la lb one))
 
     up-row : (z : ℕ) → (z + 1) * w ≡ z * w + w
     up-row z = add-mul z 1 w ∙ ap (λ v. z * w + v) (one-mul w)
@@ -174,7 +173,6 @@ module _ (w h : ℕ) (wide : 2 ≤ w) (high : 2 ≤ h) (small : w * h ≤ 255) w
         let row : t / w + 1 < h = omega (arith, row-below (place w (t % w) (t / w + 1)) under, row-place (t % w) (t / w + 1) (col-below t)) in
         joins-to (t + w) (t % w) (t / w + 1) below-place (col-below t) row (omega arith)
 
-
     last-ascends : (a : ℕ) → a ≤ t + w → Ascends a (somes (last-side w (w * h) t))
     last-ascends a l = ascends-if (ltb (t + w) (w * h)) (t + w) [] a (λ e. (l, tt)) (λ e. tt)
 
@@ -194,15 +192,17 @@ module _ (w h : ℕ) (wide : 2 ≤ w) (high : 2 ≤ h) (small : w * h ≤ 255) w
         let P : ℕ → Type 0 = λ u. (u < w * h) × (beside w h t u ≡ true) in
         let so : (u : ℕ) → beside w h t u ≡ true → P u = λ u e. (beside-parts t u e .1, e) in
         each-if (leb w t) (t - w) (low-sides w (w * h) t) P (λ e. so (t - w) (above-joins (leb-true w t e)))
-          (each-if (ltb 0 (t % w)) (t - 1) (later-sides w (w * h) t) P (λ e. so (t - 1) (left-joins (ltb-true 0 (t % w) e)))
-            (each-if (ltb (t % w + 1) w) (t + 1) (last-side w (w * h) t) P (λ e. so (t + 1) (right-joins (ltb-true (t % w + 1) w e)))
-              (each-if (ltb (t + w) (w * h)) (t + w) [] P (λ e. so (t + w) (below-joins (ltb-true (t + w) (w * h) e))) tt)))
+        (each-if (ltb 0 (t % w)) (t - 1) (later-sides w (w * h) t) P (λ e. so (t - 1) (left-joins (ltb-true 0 (t % w) e)))
+        (each-if (ltb (t % w + 1) w) (t + 1) (last-side w (w * h) t) P (λ e. so (t + 1) (right-joins (ltb-true (t % w + 1) w e)))
+        (each-if (ltb (t + w) (w * h)) (t + w) [] P (λ e. so (t + w) (below-joins (ltb-true (t + w) (w * h) e))) tt)))
 
     module _ (v : ℕ) (lv : v < w * h) (one : steps w t v ≡ 1) where
       in-low : Among v (somes (low-sides w (w * h) t)) → Among v (somes (sides w (w * h) t))
       in-low i = among-rest (leb w t) (t - w) (low-sides w (w * h) t) v i
+
       in-later : Among v (somes (later-sides w (w * h) t)) → Among v (somes (sides w (w * h) t))
       in-later i = in-low (among-rest (ltb 0 (t % w)) (t - 1) (later-sides w (w * h) t) v i)
+
       in-last : Among v (somes (last-side w (w * h) t)) → Among v (somes (sides w (w * h) t))
       in-last i = in-later (among-rest (ltb (t % w + 1) w) (t + 1) (last-side w (w * h) t) v i)
 
@@ -210,10 +210,10 @@ module _ (w h : ℕ) (wide : 2 ≤ w) (high : 2 ≤ h) (small : w * h ≤ 255) w
       same-row e =
           let row : (t / w) * w ≡ (v / w) * w = ap (λ z. z * w) e in
           ⊎-elim (λ (q : t % w ≡ v % w). absurd (omega arith))
-            (⊎-elim
-              (λ (q : t % w < v % w). in-later (among-if (ltb (t % w + 1) w) (t + 1) (last-side w (w * h) t) v (lt-ltb (t % w + 1) w (omega (arith, col-below v))) (omega (arith, of-place t, of-place v))))
-              (λ (q : v % w < t % w). in-low (among-if (ltb 0 (t % w)) (t - 1) (later-sides w (w * h) t) v (lt-ltb 0 (t % w) (omega arith)) (omega (arith, of-place t, of-place v)))))
-            (cases-order (t % w) (v % w))
+          (⊎-elim
+          (λ (q : t % w < v % w). in-later (among-if (ltb (t % w + 1) w) (t + 1) (last-side w (w * h) t) v (lt-ltb (t % w + 1) w (omega (arith, col-below v))) (omega (arith, of-place t, of-place v))))
+          (λ (q : v % w < t % w). in-low (among-if (ltb 0 (t % w)) (t - 1) (later-sides w (w * h) t) v (lt-ltb 0 (t % w) (omega arith)) (omega (arith, of-place t, of-place v)))))
+          (cases-order (t % w) (v % w))
 
       lower : t / w < v / w → Among v (somes (sides w (w * h) t))
       lower l =
@@ -242,8 +242,14 @@ module _ (w h : ℕ) (wide : 2 ≤ w) (high : 2 ≤ h) (small : w * h ≤ 255) w
   around-none t l = those-below (beside w h t) (w * h) [] tt tt (λ v k e. absurd (omega (arith, beside-parts t v e .0)))
 
   six-on : (t : ℕ) → t < w * h → length (joined-to (open-floor w h) t) ≤ 6
-  six-on t l = omega (arith, ap length (around-is t l), at-most-one (leb w t) (t - w) (low-sides w (w * h) t), at-most-one (ltb 0 (t % w)) (t - 1) (later-sides w (w * h) t),
-      at-most-one (ltb (t % w + 1) w) (t + 1) (last-side w (w * h) t), at-most-one (ltb (t + w) (w * h)) (t + w) [])
+  six-on t l = omega (
+    arith,
+    ap length (around-is t l),
+    at-most-one (leb w t) (t - w) (low-sides w (w * h) t),
+    at-most-one (ltb 0 (t % w)) (t - 1) (later-sides w (w * h) t),
+    at-most-one (ltb (t % w + 1) w) (t + 1) (last-side w (w * h) t),
+    at-most-one (ltb (t + w) (w * h)) (t + w) [],
+  )
 
   at-most-six : (t : ℕ) → length (joined-to (open-floor w h) t) ≤ 6
   at-most-six t = ⊎-elim (λ l. six-on t l) (λ l. omega (arith, ap length (around-none t l))) (cases-lt t (w * h))
@@ -253,38 +259,47 @@ module _ (w h : ℕ) (wide : 2 ≤ w) (high : 2 ≤ h) (small : w * h ≤ 255) w
   differs x y u v lx lu differ e = differ (sym (col-place x y lx) ∙ ap (λ z. z % w) e ∙ col-place u v lu) (sym (row-place x y lx) ∙ ap (λ z. z / w) e ∙ row-place u v lu)
 
   square : (x y u v a b c d : ℕ) → (x < w) × (y < h) → (u < w) × (v < h) → (a < w) × (b < h) → (c < w) × (d < h)
-    → apart x u + apart y v ≡ 1 → apart u a + apart v b ≡ 1 → apart a c + apart b d ≡ 1 → apart c x + apart d y ≡ 1
-    → (x ≡ a → y ≡ b → ⊥) → (u ≡ c → v ≡ d → ⊥) → Ring (open-floor w h) (place w x y) (place w u v)
+      → apart x u + apart y v ≡ 1 → apart u a + apart v b ≡ 1 → apart a c + apart b d ≡ 1 → apart c x + apart d y ≡ 1
+      → (x ≡ a → y ≡ b → ⊥) → (u ≡ c → v ≡ d → ⊥) → Ring (open-floor w h) (place w x y) (place w u v)
   square x y u v a b c d p q r s one two three fours across down = record {
     third = place w a b;
     others = place w c d ∷ [];
-    different = ( (differs x y u v (p .0) (q .0) (not-same x y u v one), (differs x y a b (p .0) (r .0) across, (differs x y c d (p .0) (s .0) (λ e f. not-same c d x y fours (sym e) (sym f)), tt)))
-            , ( (differs u v a b (q .0) (r .0) (not-same u v a b two), (differs u v c d (q .0) (s .0) down, tt))
-              , ( (differs a b c d (r .0) (s .0) (not-same a b c d three), tt), (tt, tt))));
-    closed = (joins-place x y u v (p .0) (p .1) (q .0) (q .1) one, (joins-place u v a b (q .0) (q .1) (r .0) (r .1) two,
-        (joins-place a b c d (r .0) (r .1) (s .0) (s .1) three, joins-place c d x y (s .0) (s .1) (p .0) (p .1) fours)));
+    different = (
+      (differs x y u v (p .0) (q .0) (not-same x y u v one), (differs x y a b (p .0) (r .0) across, (differs x y c d (p .0) (s .0) (λ e f. not-same c d x y fours (sym e) (sym f)), tt))),
+      (
+        (differs u v a b (q .0) (r .0) (not-same u v a b two), (differs u v c d (q .0) (s .0) down, tt)),
+        ((differs a b c d (r .0) (s .0) (not-same a b c d three), tt), (tt, tt)),
+      ),
+    );
+    closed = (
+      joins-place x y u v (p .0) (p .1) (q .0) (q .1) one,
+      (
+        joins-place u v a b (q .0) (q .1) (r .0) (r .1) two,
+        (joins-place a b c d (r .0) (r .1) (s .0) (s .1) three, joins-place c d x y (s .0) (s .1) (p .0) (p .1) fours),
+      ),
+    );
   }
 
   ring-place : (x y u v : ℕ) → (x < w) × (y < h) → (u < w) × (v < h) → apart x u + apart y v ≡ 1 → Ring (open-floor w h) (place w x y) (place w u v)
   ring-place x y u v p q one = ⊎-elim
-    (λ (e : y ≡ v). let o = other h y high (p .1) in
+      (λ (e : y ≡ v). let o = other h y high (p .1) in
       let z = o .0 in let lz : z < h = o .1 in let bz : apart y z ≡ 1 = o .2 in
       let bx : apart x u ≡ 1 = one-way x y u v one e in
       square x y u v u z x z p q (q .0, lz) (p .0, lz) one
-        (along u u v z refl (ap (λ k. apart k z) (sym e) ∙ bz))
-        (over u x z z refl (swapped u x ∙ bx))
-        (along x x z y refl (swapped z y ∙ bz))
-        (λ f g. one-apart y z bz g) (λ f g. one-apart x u bx (sym f)))
-    (λ (n : y ≡ v → ⊥). let o = other w x wide (p .0) in
+      (along u u v z refl (ap (λ k. apart k z) (sym e) ∙ bz))
+      (over u x z z refl (swapped u x ∙ bx))
+      (along x x z y refl (swapped z y ∙ bz))
+      (λ f g. one-apart y z bz g) (λ f g. one-apart x u bx (sym f)))
+      (λ (n : y ≡ v → ⊥). let o = other w x wide (p .0) in
       let z = o .0 in let lz : z < w = o .1 in let bz : apart x z ≡ 1 = o .2 in
       let e : x ≡ u = other-way x y u v one n .0 in
       let by : apart y v ≡ 1 = other-way x y u v one n .1 in
       square x y u v z v z y p q (lz, q .1) (lz, p .1) one
-        (over u z v v refl (ap (λ k. apart k z) (sym e) ∙ bz))
-        (along z z v y refl (swapped v y ∙ by))
-        (over z x y y refl (swapped z x ∙ bz))
-        (λ f g. one-apart x z bz f) (λ f g. one-apart y v by (sym g)))
-    (cases-eq y v)
+      (over u z v v refl (ap (λ k. apart k z) (sym e) ∙ bz))
+      (along z z v y refl (swapped v y ∙ by))
+      (over z x y y refl (swapped z x ∙ bz))
+      (λ f g. one-apart x z bz f) (λ f g. one-apart y v by (sym g)))
+      (cases-eq y v)
 
   ring : (s t : ℕ) → beside w h s t ≡ true → Ring (open-floor w h) s t
   ring s t e =

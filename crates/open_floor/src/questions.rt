@@ -68,27 +68,44 @@ impl OpenFloor {
         requires { ⌜ tile < 255 ⌝ }
         ensures { λ r. ⌜ r ≡ nth (somes (sides (now (self .entry) .width) (now (self .entry) .width * now (self .entry) .height) tile)) k ⌝ }
     {
-        let sides = [self.above(tile), self.left(tile), self.right(tile), self.below(tile)];
+        let sides = [
+            self.above(tile),
+            self.left(tile),
+            self.right(tile),
+            self.below(tile),
+        ];
         nth_present(&sides, k)
     }
 
     fn above(&self, tile: Tile) -> Option<Tile>
         ensures { λ r. ⌜ r ≡ some-if (leb (now (self .entry) .width) tile) (tile - now (self .entry) .width) ⌝ }
     {
-        if self.width <= tile { Some(tile - self.width) } else { None }
+        if self.width <= tile {
+            Some(tile - self.width)
+        } else {
+            None
+        }
     }
 
     fn left(&self, tile: Tile) -> Option<Tile>
         ensures { λ r. ⌜ r ≡ some-if (ltb 0 (tile % now (self .entry) .width)) (tile - 1) ⌝ }
     {
-        if tile % self.width > 0 { Some(tile - 1) } else { None }
+        if tile % self.width > 0 {
+            Some(tile - 1)
+        } else {
+            None
+        }
     }
 
     fn right(&self, tile: Tile) -> Option<Tile>
         requires { ⌜ tile < 255 ⌝ }
         ensures { λ r. ⌜ r ≡ some-if (ltb (tile % now (self .entry) .width + 1) (now (self .entry) .width)) (tile + 1) ⌝ }
     {
-        if tile % self.width + 1 < self.width { Some(tile + 1) } else { None }
+        if tile % self.width + 1 < self.width {
+            Some(tile + 1)
+        } else {
+            None
+        }
     }
 
     fn below(&self, tile: Tile) -> Option<Tile>
@@ -107,7 +124,11 @@ fn distance(a: Tile, b: Tile) -> Pull
     ensures value { λ r. ⌜ r ≡ apart a b ⌝ }
     ensures bound { λ r. ⌜ r < 256 ⌝ }
 {
-    if a < b { Pull::from(b - a) } else { Pull::from(a - b) }
+    if a < b {
+        Pull::from(b - a)
+    } else {
+        Pull::from(a - b)
+    }
 }
 
 // The k-th, from 0, of the tiles that are there.

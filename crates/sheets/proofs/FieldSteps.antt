@@ -20,18 +20,18 @@ stated bs = getD bs 1 0 * 256 + getD bs 2 0
 
 -- a field whose contents are all there
 pub first-whole : (a : Awaited) (bs : List ℕ) → 3 ≤ length bs → stated bs ≤ length (drop 3 bs)
-  → first-field a bs ≡ followed-by (field-says a (getD bs 0 0) (take (stated bs) (drop 3 bs))) (drop (stated bs) (drop 3 bs))
+    → first-field a bs ≡ followed-by (field-says a (getD bs 0 0) (take (stated bs) (drop 3 bs))) (drop (stated bs) (drop 3 bs))
 first-whole a [] long fits = absurd (omega arith)
 first-whole a (t ∷ []) long fits = absurd (omega arith)
 first-whole a (t ∷ (h ∷ [])) long fits = absurd (omega arith)
 first-whole a (t ∷ (h ∷ (l ∷ rest))) long fits =
     ap (λ (b : Bool). elim b as (λ _. Result (Said × List ℕ) Refusal)
-      [ false ↦ Err Cut | true ↦ followed-by (field-says a t (take (h * 256 + l) rest)) (drop (h * 256 + l) rest) ])
-      (le-leb (h * 256 + l) (length rest) fits)
+    [ false ↦ Err Cut | true ↦ followed-by (field-says a t (take (h * 256 + l) rest)) (drop (h * 256 + l) rest) ])
+    (le-leb (h * 256 + l) (length rest) fits)
 
 -- from the parts that the reader has cut off
 pub first-from-parts : (a : Awaited) (bs : List ℕ) (n : ℕ) (contents after : List ℕ) (r : Result Said Refusal) → 3 ≤ length bs → n ≡ stated bs → n ≤ length (drop 3 bs)
-  → contents ≡ take n (drop 3 bs) → after ≡ drop n (drop 3 bs) → r ≡ field-says a (getD bs 0 0) contents → followed-by r after ≡ first-field a bs
+    → contents ≡ take n (drop 3 bs) → after ≡ drop n (drop 3 bs) → r ≡ field-says a (getD bs 0 0) contents → followed-by r after ≡ first-field a bs
 first-from-parts a bs n contents after r long e fits front back told =
     let whole = first-whole a bs long (rw e at fits) in
     let front′ : contents ≡ take (stated bs) (drop 3 bs) = rw e at front in

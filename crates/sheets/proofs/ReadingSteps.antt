@@ -32,7 +32,7 @@ fewer (Ok y) rest n x e =
 fewer (Err r) rest n x e = absurd (let z : _≡_ {A = ℕ} 0 1 = cc in omega arith)
 
 fewer-if : (b : Bool) (r : Result Said Refusal) (rest : List ℕ) (n : ℕ) (x : Said × List ℕ)
-  → elim b as (λ _. Result (Said × List ℕ) Refusal) [ false ↦ Err Cut | true ↦ followed-by r (drop n rest) ] ≡ Ok x → length (x .1) ≤ length rest
+    → elim b as (λ _. Result (Said × List ℕ) Refusal) [ false ↦ Err Cut | true ↦ followed-by r (drop n rest) ] ≡ Ok x → length (x .1) ≤ length rest
 fewer-if true r rest n x e = fewer r rest n x e
 fewer-if false r rest n x e = absurd (let z : _≡_ {A = ℕ} 0 1 = cc in omega arith)
 
@@ -45,7 +45,7 @@ shrinks a (t ∷ (h ∷ (l ∷ rest))) x e =
     omega (arith, fewer-if (leb n (length rest)) (field-says a t (take n rest)) rest n x e)
 
 same-continued : (go go′ : List ℕ → Reading) (at : ℕ) (r : Result (Said × List ℕ) Refusal) → ((x : Said × List ℕ) → r ≡ Ok x → go (x .1) ≡ go′ (x .1))
-  → continued go at r ≡ continued go′ at r
+    → continued go at r ≡ continued go′ at r
 same-continued go go′ at (Ok x) same = ap (then-reads (record { place = at; field = x .0 })) (same x refl)
 same-continued go go′ at (Err r) same = refl
 
@@ -60,7 +60,7 @@ reading-enough (suc j) zero a total (b ∷ bs) lj lk = absurd (omega arith)
 reading-enough (suc j) (suc k) a total [] lj lk = refl
 reading-enough (suc j) (suc k) a total (b ∷ bs) lj lk =
     same-continued (reading j (awaited-after a) total) (reading k (awaited-after a) total) (total - length (b ∷ bs)) (first-field a (b ∷ bs))
-      (λ x e. let l = shrinks a (b ∷ bs) x e in reading-enough j k (awaited-after a) total (x .1) (omega arith) (omega arith))
+    (λ x e. let l = shrinks a (b ∷ bs) x e in reading-enough j k (awaited-after a) total (x .1) (omega arith) (omega arith))
 
 pub reading-none : (a : Awaited) (total : ℕ) (bs : List ℕ) → length bs ≡ 0 → reading (length bs) a total bs ≡ at-end a total
 unfolding reading
@@ -68,16 +68,16 @@ reading-none a total [] e = refl
 reading-none a total (b ∷ bs) e = absurd (omega arith)
 
 reading-step : (a : Awaited) (total : ℕ) (bs : List ℕ) → 0 < length bs
-  → reading (length bs) a total bs ≡ continued (λ rest. reading (length rest) (awaited-after a) total rest) (total - length bs) (first-field a bs)
+    → reading (length bs) a total bs ≡ continued (λ rest. reading (length rest) (awaited-after a) total rest) (total - length bs) (first-field a bs)
 unfolding reading
 reading-step a total [] some = absurd (omega arith)
 reading-step a total (b ∷ bs) some =
     same-continued (reading (length bs) (awaited-after a) total) (λ rest. reading (length rest) (awaited-after a) total rest) (total - length (b ∷ bs)) (first-field a (b ∷ bs))
-      (λ x e. let l = shrinks a (b ∷ bs) x e in reading-enough (length bs) (length (x .1)) (awaited-after a) total (x .1) (omega arith) (omega arith))
+    (λ x e. let l = shrinks a (b ∷ bs) x e in reading-enough (length bs) (length (x .1)) (awaited-after a) total (x .1) (omega arith) (omega arith))
 
 module _ (a : Awaited) (total : ℕ) (bs : List ℕ) (some : 0 < length bs) where
   pub reading-more : (x : Said × List ℕ) → first-field a bs ≡ Ok x
-    → reading (length bs) a total bs ≡ then-reads (record { place = total - length bs; field = x .0 }) (reading (length (x .1)) (awaited-after a) total (x .1))
+      → reading (length bs) a total bs ≡ then-reads (record { place = total - length bs; field = x .0 }) (reading (length (x .1)) (awaited-after a) total (x .1))
   reading-more x e = reading-step a total bs some ∙ ap (continued (λ rest. reading (length rest) (awaited-after a) total rest) (total - length bs)) e
 
   pub reading-bad : (r : Refusal) → first-field a bs ≡ Err r → reading (length bs) a total bs ≡ faulty (fault-at Sheet (total - length bs) r)
@@ -122,10 +122,12 @@ was-ended r o none e = elim r as (λ r. Ok None ≡ first-answer r → r ≡ end
     (sym (ap (λ o. plain-answer (Ok o)) none) ∙ e)
 
 pub was-read : (r later : Reading) (o : Option (Entry (RefT (List ℕ)))) (x : Entry (RefT (List ℕ))) → o ≡ Some x → plain-answer (Ok o) ≡ first-answer r
-  → later ≡ later-answers r → r ≡ then-reads (plain-entry x) later
-was-read r later o x some e after = elim r as (λ r. Ok (Some (plain-entry x)) ≡ first-answer r → later ≡ later-answers r → r ≡ then-reads (plain-entry x) later)
-    [ ended ↦ λ e _. absurd (some-none e) | faulty g ↦ λ e _. absurd (clash e)
-    | then-reads y rest ↦ λ e l. let h : y ≡ plain-entry x = cc in ap (λ z. then-reads z rest) h ∙ ap (then-reads (plain-entry x)) (sym l) ]
+    → later ≡ later-answers r → r ≡ then-reads (plain-entry x) later
+was-read r later o x some e after = elim r as (λ r. Ok (Some (plain-entry x)) ≡ first-answer r → later ≡ later-answers r → r ≡ then-reads (plain-entry x) later) [
+  | ended ↦ λ e _. absurd (some-none e)
+  | faulty g ↦ λ e _. absurd (clash e)
+  | then-reads y rest ↦ λ e l. let h : y ≡ plain-entry x = cc in ap (λ z. then-reads z rest) h ∙ ap (then-reads (plain-entry x)) (sym l)
+]
     (sym (ap (λ o. plain-answer (Ok o)) some) ∙ e) after
 
 -- a field more was read

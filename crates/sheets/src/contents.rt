@@ -15,14 +15,26 @@ fn said<'a>(tag: Tag, contents: &'a [u8]) -> Result<Field<&'a [u8]>, Refusal>
     ensures { λ r. ⌜ plain-said r ≡ contents-say tag (now (contents .entry)) ⌝ }
 {
     match tag {
-        Tag::OpenFloor => Ok(Field::Open { width: contents[0], height: contents[1] }),
-        Tag::DrawnFloor => Ok(Field::Drawn { size: contents[0], links: &contents[1..] }),
+        Tag::OpenFloor => Ok(Field::Open {
+            width: contents[0],
+            height: contents[1],
+        }),
+        Tag::DrawnFloor => Ok(Field::Drawn {
+            size: contents[0],
+            links: &contents[1..],
+        }),
         Tag::Preference => match PreferenceKind::from_number(contents[0]) {
             Some(preference) => Ok(Field::Prefer { preference }),
             None => Err(Refusal::Value),
         },
-        Tag::Place => Ok(Field::Place { mover: contents[0], tile: contents[1] }),
-        Tag::Assign => Ok(Field::Assign { mover: contents[0], goal: contents[1] }),
+        Tag::Place => Ok(Field::Place {
+            mover: contents[0],
+            tile: contents[1],
+        }),
+        Tag::Assign => Ok(Field::Assign {
+            mover: contents[0],
+            goal: contents[1],
+        }),
         Tag::Lift => Ok(Field::Lift { mover: contents[0] }),
         Tag::Beat => Ok(Field::Beat),
     }
@@ -45,7 +57,10 @@ fn checked<'a>(awaited: Awaited, number: u8, contents: &'a [u8]) -> Result<Field
 }
 
 // The first field of `bytes`, and the bytes after it.
-pub(crate) fn first_field<'a>(awaited: Awaited, bytes: &'a [u8]) -> Result<(Field<&'a [u8]>, &'a [u8]), Refusal>
+pub(crate) fn first_field<'a>(
+    awaited: Awaited,
+    bytes: &'a [u8],
+) -> Result<(Field<&'a [u8]>, &'a [u8]), Refusal>
     ensures { λ r. ⌜ plain-field r ≡ first-field awaited (now (bytes .entry)) ⌝ }
 {
     let [tag, high, low, rest @ ..] = bytes else {

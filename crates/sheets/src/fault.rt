@@ -3,12 +3,10 @@ ghost use Rattle.std.specs.Results.{mapped};
 ghost use Rattle.std.specs.declared.option.Option.the-variants.{Some};
 ghost use Rattle.sheets.specs.Faults.{fault-at, layer-word, fault-text};
 use base::Refusal;
-use base::refusal::RefusalDebug;
-use base::refusal::RefusalPartialEq;
 use std::fmt;
 
 // Who ended the run: the reader of the sheet, or the floor that the sheet asks for.
-#[derive(Clone, Copy, PartialEq, Eq, Debug)]
+#[derive(Clone, Copy)]
 pub enum Layer {
     Sheet,
     Floor,
@@ -26,7 +24,7 @@ pub impl fmt::Display for Layer as LayerDisplay {
 }
 
 // Why a run ends early, and the byte place of the tag of the field that ends it.
-#[derive(Clone, Copy, PartialEq, Eq, Debug)]
+#[derive(Clone, Copy)]
 pub struct Fault {
     pub layer: Layer,
     pub refusal: Refusal,
@@ -40,7 +38,11 @@ impl Fault {
     {
         match answer {
             Ok(value) => Ok(value),
-            Err(refusal) => Err(Fault { layer, refusal, place }),
+            Err(refusal) => Err(Fault {
+                layer,
+                refusal,
+                place,
+            }),
         }
     }
 }

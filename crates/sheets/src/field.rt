@@ -1,10 +1,8 @@
 use crate::preference::PreferenceKind;
-use crate::preference::PreferenceKindDebug;
-use crate::preference::PreferenceKindPartialEq;
 
 // What a field says. `L` is how the links of a drawn floor are held; the reader lends them from the sheet. Every two
 // bytes of the links name two joined tiles.
-#[derive(Clone, Copy, PartialEq, Eq, Debug)]
+#[derive(Clone, Copy)]
 pub enum Field<L> {
     Open { width: u8, height: u8 },
     Drawn { size: u8, links: L },
@@ -16,7 +14,7 @@ pub enum Field<L> {
 }
 
 // A field of a sheet, with the byte place of its tag.
-#[derive(Clone, Copy, PartialEq, Eq, Debug)]
+#[derive(Clone, Copy)]
 pub struct Entry<L> {
     pub place: usize,
     pub field: Field<L>,

@@ -2,7 +2,7 @@ ghost use mathlib.Core.Path.{_≡_};
 ghost use Rattle.sheets.specs.Numbers.{preference-of};
 
 // Which preference ranks the candidate tiles of a run.
-#[derive(Clone, Copy, PartialEq, Eq, Debug)]
+#[derive(Clone, Copy)]
 pub enum PreferenceKind {
     Plain = 0,
     Vacant = 1,

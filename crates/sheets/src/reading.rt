@@ -21,9 +21,17 @@ impl<'a> Reader<'a> {
         ensures starts { λ r. ⌜ made r (λ reader. left-in reader ≡ sheet-says (now (sheet .entry))) ⌝ }
     {
         if sheet.len() > LONGEST {
-            return Err(Fault { layer: Layer::Sheet, refusal: Refusal::Long, place: 0 });
+            return Err(Fault {
+                layer: Layer::Sheet,
+                refusal: Refusal::Long,
+                place: 0,
+            });
         }
-        Ok(Reader { total: sheet.len(), rest: sheet, awaited: Awaited::Floor })
+        Ok(Reader {
+            total: sheet.len(),
+            rest: sheet,
+            awaited: Awaited::Floor,
+        })
     }
 
     // The next field, none at the end of the sheet, or the fault at which reading ends. A fault leaves the reader as it
@@ -36,7 +44,11 @@ impl<'a> Reader<'a> {
         if self.rest.is_empty() {
             return at_end(self.awaited, place);
         }
-        let (field, rest) = Fault::located(Layer::Sheet, place, first_field(self.awaited, self.rest))?;
+        let (field, rest) = Fault::located(
+            Layer::Sheet,
+            place,
+            first_field(self.awaited, self.rest),
+        )?;
         self.rest = rest;
         self.awaited = self.awaited.next();
         Ok(Some(Entry { place, field }))
@@ -49,6 +61,10 @@ fn at_end<'a>(awaited: Awaited, place: usize) -> Result<Option<Entry<&'a [u8]>>,
 {
     match awaited {
         Awaited::Call => Ok(None),
-        Awaited::Floor | Awaited::Preference => Err(Fault { layer: Layer::Sheet, refusal: Refusal::Opening, place }),
+        Awaited::Floor | Awaited::Preference => Err(Fault {
+            layer: Layer::Sheet,
+            refusal: Refusal::Opening,
+            place,
+        }),
     }
 }

@@ -21,10 +21,10 @@ loop-tile-again c =
     let os = c .args .tiles .now in
     let i = c .loop-tile .tile-index in
     elim (c .match-tile .came) [
-      in-Some·else-ahead-eq0 w ↦ ap (nth (somes (drop (i + 1) os))) (w .ahead-is)
-        ∙ sym (nth-later os i (c .loop-tile .ahead) (c .loop-tile-test .taken) (w .in-Some .tile) (w .in-Some .is) (omega (arith, w .if-ahead-eq0 .left))) ∙ c .loop-tile .inv
-    | in-rest w ↦ ap (nth (somes (drop (i + 1) os))) (w .ahead-is)
-        ∙ sym (nth-none os i (c .loop-tile .ahead) (c .loop-tile-test .taken) (w .in-rest .is)) ∙ c .loop-tile .inv
+      | in-Some·else-ahead-eq0 w ↦ ap (nth (somes (drop (i + 1) os))) (w .ahead-is)
+          ∙ sym (nth-later os i (c .loop-tile .ahead) (c .loop-tile-test .taken) (w .in-Some .tile) (w .in-Some .is) (omega (arith, w .if-ahead-eq0 .left))) ∙ c .loop-tile .inv
+      | in-rest w ↦ ap (nth (somes (drop (i + 1) os))) (w .ahead-is)
+          ∙ sym (nth-none os i (c .loop-tile .ahead) (c .loop-tile-test .taken) (w .in-rest .is)) ∙ c .loop-tile .inv
     ]
 
 pub returns : need.returns

@@ -31,4 +31,4 @@ pub returns-in-None : need.returns-in-None
 returns-in-None c =
     let starts = c .in-Continue-reader .ensures tt .starts in
     wrote-nothing (string-bytes (c .args .out .now))
-      (run-ended (sym starts ∙ was-ended (left-in (c .in-Continue-reader .reader)) (c .in-Continue-first .field-0) (c .in-None .is) (c .in-Continue-first .ensures tt .answer)))
+    (run-ended (sym starts ∙ was-ended (left-in (c .in-Continue-reader .reader)) (c .in-Continue-first .field-0) (c .in-None .is) (c .in-Continue-first .ensures tt .answer)))

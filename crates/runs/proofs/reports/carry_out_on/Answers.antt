@@ -9,4 +9,4 @@ pub returns : need.returns
 returns g c =
     let floor = c .args .floor .now in
     wrote-after (string-bytes (c .args .out .now)) (floor-line (g .F·Floor .tiles floor) (g .F·Floor .farthest floor)) (preference-lines (left-in (c .args .reader .now)))
-      (string-bytes (c .prefer .last .out)) (c .prefer .result) (c .in-Continue-write-floor-line .ensures tt) (c .prefer .ensures)
+    (string-bytes (c .prefer .last .out)) (c .prefer .result) (c .in-Continue-write-floor-line .ensures tt) (c .prefer .ensures)

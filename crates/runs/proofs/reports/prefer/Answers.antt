@@ -20,7 +20,7 @@ returns-in-Break--entry c =
 pub returns-in-rest : need.returns-in-rest
 returns-in-rest c =
     wrote-nothing (string-bytes (c .args .out .now))
-      (preference-ended (was-ended (left-in (c .args .reader .now)) (c .in-Continue--entry .field-0) (c .in-rest .is) (c .in-Continue--entry .ensures tt .answer)))
+    (preference-ended (was-ended (left-in (c .args .reader .now)) (c .in-Continue--entry .field-0) (c .in-rest .is) (c .in-Continue--entry .ensures tt .answer)))
 
 pub returns-in-Break-read-calls : need.returns-in-Break-read-calls
 returns-in-Break-read-calls c =
@@ -33,7 +33,7 @@ returns-in-Break-read-calls c =
     let before = string-bytes (c .args .out .now) in
     let r = Err (Faulty (c .in-Break-read-calls .field-0 .0)) in
     rw (p .1, p .2) (wrote-as before out r (sym e)
-      (wrote-after before ok-line (call-lines (left-in (c .next-field .last .self))) out r (c .in-Continue-write-ok-line .ensures tt) (ap (λ l. out ++ l) (sym line))))
+    (wrote-after before ok-line (call-lines (left-in (c .next-field .last .self))) out r (c .in-Continue-write-ok-line .ensures tt) (ap (λ l. out ++ l) (sym line))))
 
 pub returns : need.returns
 returns c =

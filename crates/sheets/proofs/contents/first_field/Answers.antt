@@ -20,7 +20,7 @@ returns-in-Break-field c =
     let fits : n ≤ length (drop 3 bs) = omega (arith, ap length whole) in
     let p = err-from-errBy (c .from-residual .result) (c .from-residual .ensures .1) in
     rw (p .1, p .2) (first-from-parts (c .args .awaited) bs n _ (c .split-at .result .1 .now) (Err (c .in-Break-field .field-0 .0)) three is fits
-      (rw whole at (c .split-at .ensures .front)) (rw whole at (c .split-at .ensures .back)) (c .in-Break-field .ensures tt))
+    (rw whole at (c .split-at .ensures .front)) (rw whole at (c .split-at .ensures .back)) (c .in-Break-field .ensures tt))
 
 pub returns : need.returns
 returns c =
@@ -31,4 +31,4 @@ returns c =
     let is : n ≡ stated bs = omega arith in
     let fits : n ≤ length (drop 3 bs) = omega (arith, ap length whole) in
     first-from-parts (c .args .awaited) bs n _ (c .split-at .result .1 .now) (Ok (said (c .in-Continue-field .field))) three is fits
-      (rw whole at (c .split-at .ensures .front)) (rw whole at (c .split-at .ensures .back)) (c .in-Continue-field .ensures tt)
+    (rw whole at (c .split-at .ensures .front)) (rw whole at (c .split-at .ensures .back)) (c .in-Continue-field .ensures tt)
