@@ -1,3 +1,4 @@
 pub mod FaultSteps
 pub mod FieldSteps
 pub mod ReadingSteps
+pub mod SpelledSteps

@@ -4,4 +4,5 @@ pub mod Numbers
 pub mod Opening
 pub mod Readers
 pub mod Readings
+pub mod Spelled
 pub mod Suits

@@ -24,13 +24,19 @@ tag-number Assign = 5
 tag-number Lift = 6
 tag-number Beat = 7
 
+abbrev pub every-tag : List Tag
+every-tag = OpenFloor ∷ DrawnFloor ∷ Preference ∷ Place ∷ Assign ∷ Lift ∷ Beat ∷ []
+
 abbrev pub tag-of : ℕ → Option Tag
-tag-of n = with-number tag-number (OpenFloor ∷ DrawnFloor ∷ Preference ∷ Place ∷ Assign ∷ Lift ∷ Beat ∷ []) n
+tag-of n = with-number tag-number every-tag n
 
 abbrev pub preference-number : PreferenceKind → ℕ
 preference-number Plain = 0
 preference-number Vacant = 1
 preference-number Hindrance = 2
 
+abbrev pub every-preference : List PreferenceKind
+every-preference = Plain ∷ Vacant ∷ Hindrance ∷ []
+
 abbrev pub preference-of : ℕ → Option PreferenceKind
-preference-of n = with-number preference-number (Plain ∷ Vacant ∷ Hindrance ∷ []) n
+preference-of n = with-number preference-number every-preference n

@@ -1,7 +1,10 @@
 ghost use mathlib.Core.Path.{_≡_};
+ghost use lib.Dec.{ltb};
+ghost use lib.ListN.{length};
 ghost use Rattle.std.specs.Results.{errPart};
 ghost use Rattle.std.specs.Vec.{made};
 ghost use Rattle.sheets.specs.Readers.{left-in};
+ghost use Rattle.sheets.specs.Spelled.{Faithful};
 ghost use Rattle.sheets.specs.Readings.{sheet-says, too-long, first-answer, later-answers, plain-answer, at-end};
 use crate::awaited::Awaited;
 use crate::contents::first_field;
@@ -19,8 +22,9 @@ impl<'a> Reader<'a> {
     pub fn new(sheet: &'a [u8]) -> Result<Reader<'a>, Fault>
         ensures answer { λ r. ⌜ errPart r ≡ too-long (now (sheet .entry)) ⌝ }
         ensures starts { λ r. ⌜ made r (λ reader. left-in reader ≡ sheet-says (now (sheet .entry))) ⌝ }
+        ensures faithful { λ r. ⌜ Faithful (now (sheet .entry)) ⌝ }
     {
-        if sheet.len() > LONGEST {
+        if is_long(sheet) {
             return Err(Fault {
                 layer: Layer::Sheet,
                 refusal: Refusal::Long,
@@ -67,4 +71,11 @@ fn at_end<'a>(awaited: Awaited, place: usize) -> Result<Option<Entry<&'a [u8]>>,
             place,
         }),
     }
+}
+
+// Whether a sheet has more bytes than it may have.
+fn is_long(sheet: &[u8]) -> bool
+    ensures { λ r. ⌜ r ≡ ltb 60000 (length (now (sheet .entry))) ⌝ }
+{
+    sheet.len() > LONGEST
 }
