@@ -1,7 +1,7 @@
 ghost use mathlib.Core.Path.{_≡_};
 ghost use Rattle.sheets.specs.Numbers.{preference-of};
 
-// Which preference ranks the candidate tiles of a run.
+// A preference ranks the tiles that a mover may take next; this says which one a run uses.
 #[derive(Clone, Copy)]
 pub enum PreferenceKind {
     Plain = 0,
