@@ -1,19 +1,19 @@
 -- The laws of a floor hold of every open floor. A ring through two joined tiles is a unit square.
 use mathlib.Core.Path.{_≡_, refl, sym, ap, _∙_, subst}
-use mathlib.Core.Bool.{Bool, true, false, _&&_}
+use mathlib.Core.Bool.{true}
 use mathlib.Core.List.{List, [], _∷_}
 use mathlib.Core.Logic.{_⊎_, ⊎-elim}
 use Prim.Native.Nat.{ℕ, _+_, _-_, _*_, _/_, _%_, _≤_, _<_}
 use native.Mathlib.Nat.{mul-comm, add-mul, one-mul}
 use native.Mathlib.Omega.{arith}
-use lib.Dec.{eqb, ltb, leb}
+use lib.Dec.{ltb, leb}
 use lib.ListN.{length}
 use Rattle.std.proofs.shelf.Bits.{div-add-mod', mul-le, mul-add-lt, div-mul-add, mod-mul-add, div-below, le-div, mod-below}
 use Rattle.std.proofs.shelf.Tests.{and-parts, and-from, lt-ltb, ltb-true, eq-eqb, eqb-true, cases-order, cases-lt, leb-true, le-leb, cases-eq}
 use Rattle.std.specs.declared.option.Option.{Option}
 use Rattle.base.specs.Lists.{Among}
 use Rattle.base.proofs.Ascending.{Ascends, Each, those-below}
-use Rattle.floor.specs.Floors.{FloorModel, Laws, Nearer, Farthest, Ring, joined-to}
+use Rattle.floor.specs.Floors.{Laws, Nearer, Farthest, Ring, joined-to}
 use Rattle.floor.specs.Grid.{apart, steps, beside, corners, open-floor}
 use Rattle.floor.specs.Sides.{somes, some-if, sides}
 use Rattle.floor.proofs.Optional.{ascends-if, each-if, among-if, among-rest, at-most-one}

@@ -3,7 +3,6 @@ use mathlib.Core.List.{List, _++_}
 use Prim.Native.Nat.{ℕ}
 use lib.Chars.{codes}
 use Rattle.std.specs.Written.{decimal}
-use Rattle.floor.specs.Floors.{FloorModel}
 use Rattle.sheets.specs.Faults.{fault-text}
 use Rattle.sheets.specs.declared.fault.Fault.{Fault}
 

@@ -6,7 +6,7 @@ use mathlib.Core.Logic.{inl, inr}
 use Prim.Native.Nat.{ℕ, zero, suc, _+_, _-_, _*_, _/_, _%_, _<_, _≤_}
 use native.Mathlib.Omega.{arith}
 use lib.Dec.{eqb, leb}
-use lib.ListN.{length, getD, take, drop, length-append, length-drop, length-take, take-append-drop}
+use lib.ListN.{length, getD, take, drop, length-append, length-take, take-append-drop}
 use Rattle.std.specs.declared.option.Option.{Option}
 use Rattle.std.specs.declared.option.Option.the-variants.{Some, None}
 use Rattle.std.specs.declared.result.Result.{Result}
@@ -22,15 +22,15 @@ use Rattle.sheets.specs.declared.awaited.Awaited.the-variants.{Floor, Preferen
 use Rattle.sheets.specs.declared.fault.Fault.{Fault}
 use Rattle.sheets.specs.declared.fault.Layer.the-variants.{Sheet}
 use Rattle.sheets.specs.declared.preference.PreferenceKind.{PreferenceKind}
-use Rattle.sheets.specs.declared.field.Field.the-variants.{Open, Drawn, Prefer, Place, Assign, Lift, Beat}
+use Rattle.sheets.specs.declared.field.Field.the-variants.{Prefer, Place, Assign, Lift, Beat}
 use Rattle.sheets.specs.declared.tag.Tag.{Tag}
 use Rattle.sheets.specs.declared.tag.Tag.the-variants as tag
 use Rattle.sheets.specs.Faults.{fault-at}
-use Rattle.sheets.specs.Fields.{Said, preferred, contents-say, tagged-says, field-says, followed-by, first-field}
+use Rattle.sheets.specs.Fields.{Said, contents-say, tagged-says, field-says, followed-by, first-field}
 use Rattle.sheets.specs.Numbers.{with-number, tag-number, every-tag, tag-of, preference-number, every-preference, preference-of}
 use Rattle.sheets.specs.Opening.{may-stand, awaited-after}
 use Rattle.sheets.specs.Suits.{length-suits}
-use Rattle.sheets.specs.Readings.{Reading, ended, faulty, then-reads, at-end, continued, reading, too-long, sheet-says}
+use Rattle.sheets.specs.Readings.{Reading, at-end, continued, reading}
 use Rattle.sheets.specs.Spelled.{kind-of, contents-of, field-bytes, spelled, ends-at, Placed, Faithful}
 use Rattle.sheets.proofs.ReadingSteps.{shrinks, says-short, says-long}
 

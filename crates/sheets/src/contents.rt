@@ -1,7 +1,7 @@
 ghost use mathlib.Core.Path.{_≡_};
 ghost use mathlib.Core.Bool.{true};
 ghost use lib.ListN.{length};
-ghost use Rattle.sheets.specs.Fields.{contents-say, tagged-says, field-says, first-field, plain-field, plain-said};
+ghost use Rattle.sheets.specs.Fields.{contents-say, field-says, first-field, plain-field, plain-said};
 ghost use Rattle.sheets.specs.Suits.{length-suits};
 use crate::awaited::Awaited;
 use crate::field::Field;

@@ -2,7 +2,7 @@ ghost use mathlib.Core.Path.{_≡_};
 ghost use lib.Dec.{ltb};
 ghost use lib.ListN.{length};
 ghost use Rattle.std.specs.Results.{errPart};
-ghost use Rattle.std.specs.Vec.{made};
+ghost use Rattle.std.specs.Vec.{made, refused};
 ghost use Rattle.sheets.specs.Readers.{left-in};
 ghost use Rattle.sheets.specs.Spelled.{Faithful};
 ghost use Rattle.sheets.specs.Readings.{sheet-says, too-long, first-answer, later-answers, plain-answer, at-end};
@@ -43,6 +43,7 @@ impl<'a> Reader<'a> {
     pub fn next_field(&mut self) -> Result<Option<Entry<&'a [u8]>>, Fault>
         ensures answer { λ r. ⌜ plain-answer r ≡ first-answer (left-in (now (self .entry))) ⌝ }
         ensures after { λ r. ⌜ left-in (now (self .exit)) ≡ later-answers (left-in (now (self .entry))) ⌝ }
+        ensures same { λ r. ⌜ refused r (λ _. now (self .exit) ≡ now (self .entry)) ⌝ }
     {
         let place = self.total.saturating_sub(self.rest.len());
         if self.rest.is_empty() {

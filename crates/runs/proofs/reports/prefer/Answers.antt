@@ -1,4 +1,4 @@
-use mathlib.Core.Path.{_≡_, sym, ap, _∙_}
+use mathlib.Core.Path.{sym, ap}
 use mathlib.Core.List.{_++_}
 use Rattle.std.proofs.shelf.Results.{err-from-errBy}
 use Rattle.std.specs.Of.String.{string-bytes}
@@ -6,8 +6,8 @@ use Rattle.std.specs.declared.result.Result.the-variants.{Ok, Err}
 use Rattle.sheets.specs.Readers.{left-in}
 use Rattle.sheets.proofs.ReadingSteps.{was-faulty, was-ended, was-read}
 use Rattle.runs.specs.declared.stop.Stop.the-variants.{Faulty}
-use Rattle.runs.specs.Lines.{ok-line, stop-line}
-use Rattle.runs.specs.Printed.{preference-lines, call-lines}
+use Rattle.runs.specs.Lines.{ok-line}
+use Rattle.runs.specs.Printed.{call-lines}
 use Rattle.runs.proofs.LineSteps.{preference-faulty, preference-ended, preference-read, wrote-after, wrote-as, wrote-nothing}
 use Rattle.runs.proofs.reports.prefer.Needs as need
 

@@ -1,8 +1,7 @@
 use mathlib.Core.Path.{sym}
-use Prim.Native.Nat.{_<_}
 use native.Mathlib.Omega.{arith}
 use borrow.Author.Needs.{needs}
-use lib.ListN.{getD, length}
+use lib.ListN.{length}
 use Rattle.std.proofs.shelf.Tests.{ltb-false}
 use Rattle.sheets.proofs.ReadingSteps.{says-short}
 use Rattle.sheets.proofs.SpelledSteps.{faithful}

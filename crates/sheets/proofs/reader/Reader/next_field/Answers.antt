@@ -1,4 +1,4 @@
-use mathlib.Core.Path.{_≡_, sym, ap, _∙_}
+use mathlib.Core.Path.{_≡_, refl, sym, ap, _∙_}
 use Prim.Native.Nat.{_<_}
 use native.Mathlib.Omega.{arith}
 use lib.ListN.{length}
@@ -10,7 +10,7 @@ use Rattle.sheets.specs.declared.fault.Layer.the-variants.{Sheet}
 use Rattle.sheets.specs.Faults.{fault-at}
 use Rattle.sheets.specs.Fields.{plain-field, said}
 use Rattle.sheets.specs.Readings.{first-answer, later-answers, at-end, reading}
-use Rattle.sheets.proofs.FaultSteps.{was-granted, was-refused}
+use Rattle.sheets.proofs.FaultSteps.{was-granted, was-refused, refused-by}
 use Rattle.sheets.proofs.ReadingSteps.{reading-none, reading-more, reading-bad, end-stays}
 use Rattle.sheets.proofs.reader.Reader.next_field.Needs as need
 
@@ -24,6 +24,7 @@ returns-then-is-empty c =
     record {
       answer = c .at-end .ensures ∙ ap (λ p. first-answer (at-end (s .awaited) p)) at ∙ sym (ap first-answer e);
       after = e ∙ end-stays (s .awaited) (s .total) ∙ sym (ap later-answers e);
+      same = refused-by (c .at-end .result) _ (λ _. refl);
     }
 
 pub returns-in-Break-field : need.returns-in-Break-field
@@ -37,6 +38,7 @@ returns-in-Break-field c =
     record {
       answer = rw (p .1, p .2) (ap Err (q .2) ∙ ap (λ at. Err (fault-at Sheet at (q .0))) (c .saturating-sub-place .ensures) ∙ sym (ap first-answer e));
       after = e ∙ sym (ap later-answers e);
+      same = refused-by (c .from-residual .result) _ (λ _. refl);
     }
 
 pub returns : need.returns
@@ -50,4 +52,5 @@ returns c =
     record {
       answer = ap (λ at. Ok (Some (record { place = at; field = said (c .in-Continue-field .field) }))) (c .saturating-sub-place .ensures) ∙ sym (ap first-answer e);
       after = ap (λ a. reading (length after) a (s .total) after) (c .next-self .ensures) ∙ sym (ap later-answers e);
+      same = tt;
     }
