@@ -1,4 +1,6 @@
 // Measures how long drawn floors take to be laid, on the largest drawing there is.
+#![tactic(auto)]
+
 mod drawing;
 mod times;
 

@@ -1,4 +1,6 @@
 // Drawn floors: surveyed from a list of joined tiles, and adopted with the distances that a survey leaves.
+#![tactic(auto)]
+
 pub mod adoption;
 pub mod drawing;
 pub mod drawn;

@@ -1,5 +1,5 @@
 -- The laws of a floor hold of every open floor. A ring through two joined tiles is a unit square.
-use Rattle.std.proofs.Common.{◌≡◌, ℕ, ◌+◌, ◌-◌, ◌*◌, ◌/◌, ◌%◌, ◌<◌, ◌≤◌, true, ltb, leb, ◌⊎◌, List, [], ◌∷◌, length, Option, sym, refl, ap, ◌∙◌, subst, ⊎_elim, mul_comm, add-mul, one-mul, arith}
+use Rattle.std.proofs.Common.{◌≡◌, ℕ, ◌+◌, ◌-◌, ◌*◌, ◌/◌, ◌%◌, ◌<◌, ◌≤◌, true, ltb, leb, List, [], ◌∷◌, length, Option, sym, refl, ap, ◌∙◌, subst, ⊎_elim, mul_comm, add-mul, one-mul, arith}
 use Rattle.std.proofs.lemmas.Nat.{div-add-mod', mul-le, mul-add-lt, div-mul-add, mod-mul-add, div_below, le-div, mod_below}
 use Rattle.std.proofs.lemmas.Bool.{and_parts, and_from, lt-ltb, ltb-true, eq-eqb, eqb-true, cases_order, cases_lt, leb-true, le-leb, cases_eq}
 use Rattle.base.specs.Lists.{Among}

@@ -1,5 +1,5 @@
 -- The survey of a drawn floor: its tests, in their order, and the distances that it writes.
-use Rattle.std.specs.Prelude.{ℕ, ◌+◌, ◌*◌, ◌/◌, ◌%◌, Bool, false, not, ◌&&◌, ◌||◌, ltb, List, [], ◌∷◌, ◌++◌, map, length, drop, Some, None, Option, ◌==◌, nat_eq, nat_le, nat_lt}
+use Rattle.std.specs.Prelude.{ℕ, ◌*◌, ◌/◌, ◌%◌, Bool, false, not, ◌&&◌, ◌||◌, ltb, List, [], ◌∷◌, ◌++◌, map, length, drop, Some, None, Option, ◌==◌, nat_eq, nat_le, nat_lt}
 use Rattle.base.specs.Lists.{below, some_is}
 use Rattle.base.specs.Refusals.{first_refusal}
 use Rattle.base.specs.declared.refusal.Refusal.{Refusal}

@@ -1,4 +1,6 @@
 // A floor: tiles, which of them are joined, and how strongly each is drawn to each goal.
+#![tactic(auto)]
+
 ghost use Rattle.std.specs.Prelude.{◌≡◌, ℕ, Bool};
 ghost use Rattle.std.specs.List.{slice_get};
 ghost use Rattle.floor.specs.Floors.{Laws, floor_model, joined_to, pull_between};

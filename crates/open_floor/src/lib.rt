@@ -1,4 +1,6 @@
 // Open floors: a full rectangle of tiles.
+#![tactic(auto)]
+
 pub mod grid;
 pub mod questions;
 

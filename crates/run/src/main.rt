@@ -1,4 +1,6 @@
 // Reads a run sheet from standard input, carries it out, and prints what it did, line by line.
+#![tactic(auto)]
+
 use runs::report;
 use std::io;
 use std::io::Read;

@@ -1,4 +1,6 @@
 // What a run sheet prints.
+#![tactic(auto)]
+
 pub mod lines;
 pub mod reports;
 pub mod stop;

@@ -1,4 +1,6 @@
 // The run sheet: a row of fields, read one by one.
+#![tactic(auto)]
+
 pub mod awaited;
 pub mod contents;
 pub mod fault;

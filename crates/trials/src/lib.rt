@@ -1,4 +1,6 @@
 // Examples worked out by hand, run against the crates.
+#![tactic(auto)]
+
 #[cfg(test)]
 mod adoptions;
 #[cfg(test)]
