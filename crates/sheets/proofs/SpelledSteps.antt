@@ -11,7 +11,7 @@ use Rattle.sheets.specs.declared.awaited.Awaited.TheVariants.{Floor, Preference,
 use Rattle.sheets.specs.declared.fault.Fault.{Fault}
 use Rattle.sheets.specs.declared.fault.Layer.TheVariants.{Sheet}
 use Rattle.sheets.specs.declared.preference.PreferenceKind.{PreferenceKind}
-use Rattle.sheets.specs.declared.field.Field.TheVariants.{Prefer, Place, Assign, Lift, Beat}
+use Rattle.sheets.specs.declared.field.Field.TheVariants.{Prefer}
 use Rattle.sheets.specs.declared.tag.Tag.{Tag}
 use Rattle.sheets.specs.declared.tag.Tag.TheVariants as tag
 use Rattle.sheets.specs.Faults.{fault_at}
