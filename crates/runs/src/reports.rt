@@ -54,7 +54,7 @@ fn lay(first: Entry<&[u8]>, reader: &mut Reader, out: &mut String) -> Result<(),
 
 // Carries out the fields after a floor that is laid.
 fn carry_out_on<F: Floor>(floor: &F, reader: &mut Reader, out: &mut String) -> Result<(), Stop>
-    ensures { Wrote (string_bytes out.old) (string_bytes out.new) (floor_line (tiles floor.now) (farthest floor.now) ++ preference_lines (left_in reader.old)) result }
+    ensures { Wrote (string_bytes out.old) (string_bytes out.new) (floor_line (F.tiles floor.now) (F.farthest floor.now) ++ preference_lines (left_in reader.old)) result }
 {
     write_floor_line(out, floor)?;
     prefer(reader, out)

@@ -2,6 +2,7 @@ ghost use Rattle.std.specs.Prelude.{◌≡◌};
 ghost use Rattle.runs.specs.declared.stop.Stop.TheVariants.{Faulty, NoMemory};
 
 use sheets::Fault;
+use std::alloc::AllocError;
 use std::fmt;
 
 // Why the lines of a run break off: a fault, which the last line names, or want of memory.
@@ -24,6 +25,14 @@ impl From<fmt::Error> for Stop {
     ghost from_gives = { λ _ s. s ≡ NoMemory };
 
     fn from(_error: fmt::Error) -> Stop {
+        Stop::NoMemory
+    }
+}
+
+impl From<AllocError> for Stop {
+    ghost from_gives = { λ _ s. s ≡ NoMemory };
+
+    fn from(_error: AllocError) -> Stop {
         Stop::NoMemory
     }
 }

@@ -9,4 +9,4 @@ pub returns : goal.returns
 returns g c =
     let floor = c.args.floor.now in
     wrote_after (string_bytes c.args.out.now) (floor_line (g.F.Floor.tiles floor) (g.F.Floor.farthest floor)) (preference_lines (left_in c.args.reader.now))
-    (string_bytes c.prefer.new.out) c.prefer.result c.in-ok-write-floor-line.ensures c.prefer.ensures
+    (string_bytes c.prefer.new.out) c.prefer.result c.in_ok-write_floor_line.ensures c.prefer.ensures

@@ -10,10 +10,10 @@ use Rattle.runs.specs.Lines.{stop_line}
 use Rattle.runs.specs.Printed.{floor_lines, asked_lines, laid_lines}
 use Rattle.runs.proofs.reports.lay.Goals as goal
 
-pub returns-in-err-floor : goal.returns-in-err-floor
-returns-in-err-floor c =
-    let p = err_from_is_err_and c.from-residual.result c.from-residual.ensures.1 in
-    let q = was_refused Floor c.args.first.place c.new.result c.in-err-floor.field-0.0 c.in-err-floor.ensures in
+pub returns-in_err-floor-in-Open : goal.returns-in_err-floor-in-Open
+returns-in_err-floor-in-Open c =
+    let p = err_from_is_err_and c.from_residual.result c.from_residual.ensures.1 in
+    let q = was_refused Floor c.args.first.place c.new.result c.in_err-floor-in-Open.field-0.0 c.in_err-floor-in-Open.ensures in
     let rest = left_in c.args.reader.now in
     let lines = laid_lines (open_model c.in-Open.width c.in-Open.height) rest in
     let refused = sym (ap result_err q.1) ∙ c.new.ensures.answer in
