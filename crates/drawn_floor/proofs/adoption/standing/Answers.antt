@@ -4,8 +4,8 @@ use Rattle.base.specs.Lists.{greatest}
 use Rattle.drawn_floor.proofs.Adopting.{no_floor, no_room, agreed, not_agreed, kept_made}
 use Rattle.drawn_floor.proofs.adoption.standing.Goals as goal
 
-pub returns-in-default : goal.returns-in-default
-returns-in-default c = record { answer = no_floor c.args.size c.args.links.now c.args.pulls.now c.in-default.ensures.answer; size = tt; kept = tt }
+pub returns-in_default : goal.returns-in_default
+returns-in_default c = record { answer = no_floor c.args.size c.args.links.now c.args.pulls.now c.in_default.ensures.answer; size = tt; kept = tt }
 
 pub returns-then-pulls-places : goal.returns-then-pulls-places
 returns-then-pulls-places c = record { answer = no_room c.args.size c.args.links.now c.args.pulls.now c.if-pulls-places.true; size = tt; kept = tt }
@@ -33,5 +33,5 @@ returns c =
     record {
       answer = sym (agreed n joined.size links pulls joined.tiles told.answer told.made room found);
       size = told.made.0;
-      kept = kept_made n joined.size links pulls joined.tiles told.answer told.made room found (c.greatest-of.ensures ∙ ap (λ k. greatest (take k pulls)) whole);
+      kept = kept_made n joined.size links pulls joined.tiles told.answer told.made room found (c.greatest_of.ensures ∙ ap (λ k. greatest (take k pulls)) whole);
     }

@@ -4,19 +4,19 @@ use Rattle.base.proofs.Seeking.{some_met, some_later, some_none}
 use Rattle.drawn_floor.proofs.Pairs.{pair_within, pairs_end}
 use Rattle.drawn_floor.proofs.links.any_stranger.Goals as goal
 
-pub returns-then-is-stranger : goal.returns-then-is-stranger
-returns-then-is-stranger c =
+pub returns-then-is_stranger : goal.returns-then-is_stranger
+returns-then-is_stranger c =
     let links = c.args.links.now in
     let k = c.loop-k.k in
     some_met (λ p. leb c.args.size p.0 || leb c.args.size p.1) (pairs_of links) k (0, 0) (pair_within links k c.loop-k-test.true)
-    (sym (ap (λ p. leb c.args.size p.0 || leb c.args.size p.1) c.pair-at.ensures) ∙ sym c.is-stranger.ensures ∙ c.if-is-stranger.true) c.loop-k.invariant
+    (sym (ap (λ p. leb c.args.size p.0 || leb c.args.size p.1) c.pair_at.ensures) ∙ sym c.is_stranger.ensures ∙ c.if-is_stranger.true) c.loop-k.invariant
 
 pub loop-k-preserved : goal.loop-k-preserved
 loop-k-preserved c =
     let links = c.args.links.now in
     let k = c.loop-k.k in
     some_later (λ p. leb c.args.size p.0 || leb c.args.size p.1) (pairs_of links) k (0, 0) (pair_within links k c.loop-k-test.true)
-    (sym (ap (λ p. leb c.args.size p.0 || leb c.args.size p.1) c.pair-at.ensures) ∙ sym c.is-stranger.ensures ∙ c.if-is-stranger.false) c.loop-k.invariant
+    (sym (ap (λ p. leb c.args.size p.0 || leb c.args.size p.1) c.pair_at.ensures) ∙ sym c.is_stranger.ensures ∙ c.if-is_stranger.false) c.loop-k.invariant
 
 pub returns : goal.returns
 returns c = some_none (λ p. leb c.args.size p.0 || leb c.args.size p.1) (pairs_of c.args.links.now) c.loop-k.k (pairs_end c.args.links.now c.loop-k.k c.loop-k-test.false) c.loop-k.invariant

@@ -8,13 +8,13 @@ use Rattle.drawn_floor.proofs.Marking.{marking_met, marking_more}
 use Rattle.drawn_floor.proofs.Pairs.{pair_within, pairs_end}
 use Rattle.drawn_floor.proofs.marks.mark_again.Goals as goal
 
-pub returns-then-is-marked : goal.returns-then-is-marked
-returns-then-is-marked c =
+pub returns-then-is_marked : goal.returns-then-is_marked
+returns-then-is_marked c =
     let links = c.args.links.now in
     let k = c.loop-k.k in
     record {
-      again = marking_met (pairs_of links) k c.loop-k.marks c.pair-at-pair.result c.pair-at-pair.ensures (pair_within links k c.loop-k-test.true) (omega arith) (omega arith)
-          c.loop-k.invariant.0 c.loop-k.invariant.1 (sym c.is-marked.ensures ∙ c.if-is-marked.true);
+      again = marking_met (pairs_of links) k c.loop-k.marks c.pair_at-pair.result c.pair_at-pair.ensures (pair_within links k c.loop-k-test.true) (omega arith) (omega arith)
+          c.loop-k.invariant.0 c.loop-k.invariant.1 (sym c.is_marked.ensures ∙ c.if-is_marked.true);
       marks = λ e. absurd (true≢false e);
     }
 
@@ -22,8 +22,8 @@ pub loop-k-preserved : goal.loop-k-preserved
 loop-k-preserved c =
     let links = c.args.links.now in
     let k = c.loop-k.k in
-    marking_more (pairs_of links) k c.loop-k.marks c.pair-at-pair.result c.pair-at-pair.ensures (pair_within links k c.loop-k-test.true) (omega arith) (omega arith)
-    c.loop-k.invariant.0 c.loop-k.invariant.1 c.mark.new.marks c.mark.array_long c.mark.ensures (sym c.is-marked.ensures ∙ c.if-is-marked.false)
+    marking_more (pairs_of links) k c.loop-k.marks c.pair_at-pair.result c.pair_at-pair.ensures (pair_within links k c.loop-k-test.true) (omega arith) (omega arith)
+    c.loop-k.invariant.0 c.loop-k.invariant.1 c.mark.new.marks c.mark.array_long c.mark.ensures (sym c.is_marked.ensures ∙ c.if-is_marked.false)
 
 pub returns : goal.returns
 returns c =

@@ -1,43 +1,53 @@
-use Rattle.std.proofs.Common.{[], ◌∷◌, sym, refl, ap, ◌∙◌}
+use Rattle.std.proofs.Common.{Some, [], ◌∷◌, sym, refl, ap, ◌∙◌}
+use Rattle.std.proofs.lemmas.Result.{err_from_is_err_and}
+use Rattle.std.specs.Result.{result_err}
+use Rattle.base.proofs.Testing.{refused_on}
 use Rattle.base.specs.Refusals.{first_refusal}
 use Rattle.base.specs.declared.refusal.Refusal.TheVariants.{Split, Neck}
 use Rattle.floor.specs.Links.{pairs_of}
-use Rattle.floor.specs.Survey.{has_neck}
+use Rattle.floor.specs.Survey.{has_neck, link_tests, walk_tests}
 use Rattle.drawn_floor.proofs.Finding.{split_made, known_made, walk_answer, made_answer}
 use Rattle.drawn_floor.proofs.joined_tiles.JoinedTiles.drawn.Goals as goal
 
-pub returns-then-is-split : goal.returns-then-is-split
-returns-then-is-split c =
+pub returns-in_err-joined-clause-answer : goal.returns-in_err-joined-clause-answer
+returns-in_err-joined-clause-answer c =
     let n = c.args.size in
     let links = c.args.links.now in
-    let joined = c.in-ok-joined.joined in
-    let told = c.in-ok-joined.ensures in
+    let p = err_from_is_err_and c.from_residual.result c.from_residual.ensures.1 in
+    ap result_err p.1 ∙ ap Some p.2 ∙ sym (refused_on (link_tests n links) (walk_tests n links) c.in_err-joined.field-0.0 (sym c.in_err-joined.ensures.answer))
+
+pub returns-then-is_split : goal.returns-then-is_split
+returns-then-is_split c =
+    let n = c.args.size in
+    let links = c.args.links.now in
+    let joined = c.in_ok-joined.joined in
+    let told = c.in_ok-joined.ensures in
     let split = split_made n joined.size links joined.tiles told.answer told.made c.is_split.result c.is_split.ensures in
     record {
-      answer = sym (ap (λ b. first_refusal ((b, Split) ∷ (has_neck n (pairs_of links), Neck) ∷ [])) c.if-is-split.true) ∙ walk_answer n joined.size links joined.tiles told.answer told.made split refl;
+      answer = sym (ap (λ b. first_refusal ((b, Split) ∷ (has_neck n (pairs_of links), Neck) ∷ [])) c.if-is_split.true) ∙ walk_answer n joined.size links joined.tiles told.answer told.made split refl;
       made = tt;
     }
 
-pub has-neck-requires : goal.has-neck-requires
-has-neck-requires c =
-    let joined = c.in-ok-joined.joined in
-    let told = c.in-ok-joined.ensures in
+pub has_neck-requires : goal.has_neck-requires
+has_neck-requires c =
+    let joined = c.in_ok-joined.joined in
+    let told = c.in_ok-joined.ensures in
     known_made c.args.size joined.size c.args.links.now joined.tiles told.answer told.made
 
-pub returns-then-has-neck : goal.returns-then-has-neck
-returns-then-has-neck c =
-    let joined = c.in-ok-joined.joined in
-    let told = c.in-ok-joined.ensures in
+pub returns-then-has_neck : goal.returns-then-has_neck
+returns-then-has_neck c =
+    let joined = c.in_ok-joined.joined in
+    let told = c.in_ok-joined.ensures in
     record {
-      answer = made_answer c.args.size joined.size c.args.links.now joined.tiles told.answer told.made c.is_split.result c.has_neck.result c.if-is-split.false c.if-has-neck.true c.is_split.ensures c.has_neck.ensures;
+      answer = made_answer c.args.size joined.size c.args.links.now joined.tiles told.answer told.made c.is_split.result c.has_neck.result c.if-is_split.false c.if-has_neck.true c.is_split.ensures c.has_neck.ensures;
       made = tt;
     }
 
 pub returns : goal.returns
 returns c =
-    let joined = c.in-ok-joined.joined in
-    let told = c.in-ok-joined.ensures in
+    let joined = c.in_ok-joined.joined in
+    let told = c.in_ok-joined.ensures in
     record {
-      answer = made_answer c.args.size joined.size c.args.links.now joined.tiles told.answer told.made c.is_split.result c.has_neck.result c.if-is-split.false c.if-has-neck.false c.is_split.ensures c.has_neck.ensures;
+      answer = made_answer c.args.size joined.size c.args.links.now joined.tiles told.answer told.made c.is_split.result c.has_neck.result c.if-is_split.false c.if-has_neck.false c.is_split.ensures c.has_neck.ensures;
       made = told.made;
     }

@@ -10,18 +10,18 @@ use Rattle.drawn_floor.proofs.joined_tiles.JoinedTiles.from_marks.Goals as goal
 pub loop-tile-init : goal.loop-tile-init
 loop-tile-init c = (tabled_none (marked_to c.args.size c.args.marks.now) (replicate 1530 None) (empty_places 1530), none_below c.args.size 1530, refl, refl)
 
-pub list-joined-requires : goal.list-joined-requires
-list-joined-requires c = record { tile = c.loop-tile-test.true; before = c.loop-tile.invariant.0; below = c.loop-tile.invariant.1 }
+pub list_joined-requires : goal.list_joined-requires
+list_joined-requires c = record { tile = c.loop-tile-test.true; before = c.loop-tile.invariant.0; below = c.loop-tile.invariant.1 }
 
-pub returns-then-not-list-joined : goal.returns-then-not-list-joined
-returns-then-not-list-joined c =
+pub returns-then-not-list_joined : goal.returns-then-not-list_joined
+returns-then-not-list_joined c =
     let n = c.args.size in
     let row = marked_to n c.args.marks.now in
     let tile = c.loop-tile.tile in
     let within = c.loop-tile-test.true in
     record {
       crowded = sym (some_met (λ t. ltb 6 (length (row t))) (below n) tile 0 (omega (arith, length-below n))
-          (ap (λ t. ltb 6 (length (row t))) (get_or-below n tile 0 within) ∙ six_more (length (row tile)) (sym c.list-joined.ensures.room ∙ c.if-not-list-joined.true)) c.loop-tile.invariant.3);
+          (ap (λ t. ltb 6 (length (row t))) (get_or-below n tile 0 within) ∙ six_more (length (row tile)) (sym c.list_joined.ensures.room ∙ c.if-not-list_joined.true)) c.loop-tile.invariant.3);
       made = tt;
     }
 
@@ -31,15 +31,15 @@ loop-tile-preserved c =
     let row = marked_to n c.args.marks.now in
     let tile = c.loop-tile.tile in
     let within = c.loop-tile-test.true in (
-      c.list-joined.ensures.after c.if-not-list-joined.false,
-      c.list-joined.ensures.below,
-      c.list-joined.array_long,
+      c.list_joined.ensures.after c.if-not-list_joined.false,
+      c.list_joined.ensures.below,
+      c.list_joined.array_long,
       some_later (λ t. ltb 6 (length (row t))) (below n) tile 0 (omega (arith, length-below n))
-          (ap (λ t. ltb 6 (length (row t))) (get_or-below n tile 0 within) ∙ six_most (length (row tile)) (sym c.list-joined.ensures.room ∙ c.if-not-list-joined.false)) c.loop-tile.invariant.3,
+          (ap (λ t. ltb 6 (length (row t))) (get_or-below n tile 0 within) ∙ six_most (length (row tile)) (sym c.list_joined.ensures.room ∙ c.if-not-list_joined.false)) c.loop-tile.invariant.3,
     )
 
-pub invariant-of-result : goal.invariant-of-result
-invariant-of-result c = (c.loop-tile.invariant.2, (c.loop-tile.invariant.1, tt))
+pub invariant_of-result : goal.invariant_of-result
+invariant_of-result c = record { long = c.loop-tile.invariant.2; below = c.loop-tile.invariant.1 }
 
 pub returns : goal.returns
 returns c =

@@ -6,7 +6,7 @@ use Rattle.drawn_floor.proofs.joined_tiles.JoinedTiles.is_split.Goals as goal
 pub returns-then-steps : goal.returns-then-steps
 returns-then-steps c =
     let long : length c.search.new.row ≡ c.args.self.now.size = search rules in
-    let t = c.loop-steps.Steps-index in
+    let t = c.loop-steps.steps-index in
     let l : t < c.args.self.now.size = omega arith in
     (λ _. (t, l, found_none (c.search.ensures t l) c.if-steps.true (omega arith)), λ _. refl)
 

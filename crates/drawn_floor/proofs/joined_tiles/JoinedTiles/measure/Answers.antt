@@ -10,8 +10,8 @@ use Rattle.drawn_floor.proofs.joined_tiles.JoinedTiles.measure.Goals as goal
 pub loop-goal-init : goal.loop-goal-init
 loop-goal-init c = (λ g t l k. absurd (omega arith), refl)
 
-pub slice-bounds-search-end : goal.slice-bounds-search-end
-slice-bounds-search-end c =
+pub slice_bounds-search-end : goal.slice_bounds-search-end
+slice_bounds-search-end c =
     let n = c.args.self.now.size in
     let fits : c.loop-goal.goal * n + n ≤ length c.loop-goal.distances = row_end n c.loop-goal.goal (length c.loop-goal.distances) c.loop-goal-test.true (omega arith) in
     search rules

@@ -7,8 +7,8 @@ use Rattle.drawn_floor.proofs.joined_tiles.JoinedTiles.search.Goals as goal
 
 pub loop-at-init : goal.loop-at-init
 loop-at-init c =
-    start (Passes c.args.self.now.tiles c.args.cut) c.args.self.now.size c.args.goal c.set-far.new.row (replicate 255 c.args.goal)
-    (omega arith) refl (omega arith) c.requires.goal (λ k h. c.set-far.ensures k h) refl c.from.ensures
+    start (Passes c.args.self.now.tiles c.args.cut) c.args.self.now.size c.args.goal c.set_far.new.row (replicate 255 c.args.goal)
+    (omega arith) refl (omega arith) c.requires.goal (λ k h. c.set_far.ensures k h) refl c.from.ensures
 
 pub returns : goal.returns
 returns c =
