@@ -1,9 +1,9 @@
 // Drawn floors: what they adopt, what they stay, and what they answer.
+use crate::checks::{check, check_eq};
 use crate::rings::ring_links;
 use base::Refusal;
 use drawn_floor::{DrawnFloor, survey};
 use floor::{Floor, Pull, Tile};
-use std::process::Abort;
 use std::test::Fail;
 
 // A ring of four with the pair 0-2 across, so that only 1 and 3 are two steps apart: its links, and its distances with
@@ -12,25 +12,25 @@ const KITE: [u8; 10] = [3, 0, 2, 0, 1, 0, 2, 1, 3, 2];
 
 const KITE_PULLS: [Pull; 17] = [0, 1, 1, 1, 1, 0, 1, 2, 1, 1, 0, 1, 1, 2, 1, 0, 7];
 
-fn is_ring_of_three(rt: &impl Abort, floor: &DrawnFloor) {
-    assert_eq!(rt; floor.size(), 3);
-    assert_eq!(rt; floor.reach(), 1);
+fn is_ring_of_three(floor: &DrawnFloor) -> Result<(), Fail> {
+    check_eq(floor.size(), 3)?;
+    check_eq(floor.reach(), 1)?;
     for (tile, first, second) in [(0, 1, 2), (1, 0, 2), (2, 0, 1)] {
-        assert_eq!(rt; floor.joined(tile, 0), Some(first));
-        assert_eq!(rt; floor.joined(tile, 1), Some(second));
-        assert_eq!(rt; floor.joined(tile, 2), None);
-        assert_eq!(rt; floor.pull(tile, tile), Some(0));
-        assert_eq!(rt; floor.pull(tile, first), Some(1));
-        assert_eq!(rt; floor.pull(tile, second), Some(1));
+        check_eq(floor.joined(tile, 0), Some(first))?;
+        check_eq(floor.joined(tile, 1), Some(second))?;
+        check_eq(floor.joined(tile, 2), None)?;
+        check_eq(floor.pull(tile, tile), Some(0))?;
+        check_eq(floor.pull(tile, first), Some(1))?;
+        check_eq(floor.pull(tile, second), Some(1))?;
     }
-    assert_eq!(rt; floor.joined(3, 0), None);
-    assert_eq!(rt; floor.pull(3, 0), None);
-    assert_eq!(rt; floor.pull(0, 3), None);
+    check_eq(floor.joined(3, 0), None)?;
+    check_eq(floor.pull(3, 0), None)?;
+    check_eq(floor.pull(0, 3), None)
 }
 
-fn is_kite(rt: &impl Abort, floor: &DrawnFloor) {
-    assert_eq!(rt; floor.size(), 4);
-    assert_eq!(rt; floor.reach(), 2);
+fn is_kite(floor: &DrawnFloor) -> Result<(), Fail> {
+    check_eq(floor.size(), 4)?;
+    check_eq(floor.reach(), 2)?;
     for (tile, k, joined) in [
         (0, 0, Some(1)),
         (0, 1, Some(2)),
@@ -45,7 +45,7 @@ fn is_kite(rt: &impl Abort, floor: &DrawnFloor) {
         (3, 1, Some(2)),
         (4, 0, None),
     ] {
-        assert_eq!(rt; floor.joined(tile, k), joined);
+        check_eq(floor.joined(tile, k), joined)?;
     }
     for (tile, goal, pull) in [
         (0, 2, Some(1)),
@@ -55,38 +55,39 @@ fn is_kite(rt: &impl Abort, floor: &DrawnFloor) {
         (0, 4, None),
         (4, 0, None),
     ] {
-        assert_eq!(rt; floor.pull(tile, goal), pull);
+        check_eq(floor.pull(tile, goal), pull)?;
     }
+    Ok(())
 }
 
 // Adopts the kite, and keeps it when it is handed links that name a fourth of three tiles.
-fn becomes_kite<'a>(rt: &impl Abort, links: &'a [u8], pulls: &'a [Pull]) {
+fn becomes_kite<'a>(links: &'a [u8], pulls: &'a [Pull]) -> Result<(), Fail> {
     let mut floor = DrawnFloor::ring();
-    assert!(rt; floor.adopt(4, links, pulls));
-    is_kite(rt, &floor);
-    assert!(rt; !floor.adopt(3, links, pulls));
-    is_kite(rt, &floor);
+    check(floor.adopt(4, links, pulls))?;
+    is_kite(&floor)?;
+    check(!floor.adopt(3, links, pulls))?;
+    is_kite(&floor)
 }
 
-fn stays_ring<'a>(rt: &impl Abort, size: Tile, links: &'a [u8], pulls: &'a [Pull]) {
+fn stays_ring<'a>(size: Tile, links: &'a [u8], pulls: &'a [Pull]) -> Result<(), Fail> {
     let mut floor: DrawnFloor<'a> = DrawnFloor::ring();
-    is_ring_of_three(rt, &floor);
-    assert!(rt; !floor.adopt(size, links, pulls));
-    is_ring_of_three(rt, &floor);
+    is_ring_of_three(&floor)?;
+    check(!floor.adopt(size, links, pulls))?;
+    is_ring_of_three(&floor)
 }
 
 #[test]
-fn adopted(rt: HostRuntime) {
+fn adopted() -> Result<(), Fail> {
     let mut numbers = [7; 17];
-    assert!(rt; survey(4, &KITE, &mut numbers).is_ok());
-    becomes_kite(&rt, &KITE, &numbers);
-    becomes_kite(&rt, &KITE, &KITE_PULLS);
-    becomes_kite(&rt, &KITE, &KITE_PULLS[0..16]);
+    check(survey(4, &KITE, &mut numbers).is_ok())?;
+    becomes_kite(&KITE, &numbers)?;
+    becomes_kite(&KITE, &KITE_PULLS)?;
+    becomes_kite(&KITE, &KITE_PULLS[0..16])
 }
 
 // The changed rows still lead to their goals, but not with the steps of a shortest walk from tile 1.
 #[test]
-fn not_adopted(rt: HostRuntime) {
+fn not_adopted() -> Result<(), Fail> {
     let mut first_row = KITE_PULLS;
     first_row[1] = 2;
     let mut last_row = KITE_PULLS;
@@ -102,22 +103,23 @@ fn not_adopted(rt: HostRuntime) {
         (2, &[0, 1], &[0, 1, 1, 0]),
     ];
     for (size, links, pulls) in rows {
-        stays_ring(&rt, size, links, pulls);
+        stays_ring(size, links, pulls)?;
     }
+    Ok(())
 }
 
 // In a ring of 255 the way is the shorter of the two around it: from 10 to 200 it has 255 - 190 steps.
-fn becomes_longest_ring<'a>(rt: &impl Abort, links: &'a [u8], pulls: &'a [Pull]) {
+fn becomes_longest_ring<'a>(links: &'a [u8], pulls: &'a [Pull]) -> Result<(), Fail> {
     let mut floor = DrawnFloor::ring();
-    assert!(rt; floor.adopt(255, links, pulls));
-    assert_eq!(rt; floor.size(), 255);
-    assert_eq!(rt; floor.reach(), 127);
+    check(floor.adopt(255, links, pulls))?;
+    check_eq(floor.size(), 255)?;
+    check_eq(floor.reach(), 127)?;
     for (tile, first, second) in [(0, 1, 254), (1, 0, 2), (100, 99, 101), (254, 0, 253)] {
-        assert_eq!(rt; floor.joined(tile, 0), Some(first));
-        assert_eq!(rt; floor.joined(tile, 1), Some(second));
-        assert_eq!(rt; floor.joined(tile, 2), None);
+        check_eq(floor.joined(tile, 0), Some(first))?;
+        check_eq(floor.joined(tile, 1), Some(second))?;
+        check_eq(floor.joined(tile, 2), None)?;
     }
-    assert_eq!(rt; floor.joined(255, 0), None);
+    check_eq(floor.joined(255, 0), None)?;
     for (tile, goal, pull) in [
         (0, 254, Some(1)),
         (0, 127, Some(127)),
@@ -127,8 +129,9 @@ fn becomes_longest_ring<'a>(rt: &impl Abort, links: &'a [u8], pulls: &'a [Pull])
         (0, 255, None),
         (255, 0, None),
     ] {
-        assert_eq!(rt; floor.pull(tile, goal), pull);
+        check_eq(floor.pull(tile, goal), pull)?;
     }
+    Ok(())
 }
 
 #[test]
@@ -136,15 +139,14 @@ fn longest_ring(rt: HostRuntime) -> Result<(), Fail> {
     let heap = rt.alloc();
     let links = ring_links(heap, 255)?;
     let mut few = vec![in heap; 7; 65024]?;
-    assert_eq!(rt;
+    check_eq(
         survey(255, links.as_slice(), few.as_mut_slice()).err(),
-        Some(Refusal::ShortList)
-    );
+        Some(Refusal::ShortList),
+    )?;
     for number in few.as_slice() {
-        assert_eq!(rt; *number, 7);
+        check_eq(*number, 7)?;
     }
     let mut numbers = vec![in heap; 7; 65025]?;
-    assert!(rt; survey(255, links.as_slice(), numbers.as_mut_slice()).is_ok());
-    becomes_longest_ring(&rt, links.as_slice(), numbers.as_slice());
-    Ok(())
+    check(survey(255, links.as_slice(), numbers.as_mut_slice()).is_ok())?;
+    becomes_longest_ring(links.as_slice(), numbers.as_slice())
 }

@@ -1,29 +1,31 @@
 // Open floors: bounds, reach, joined tiles and pulls.
+use crate::checks::{check, check_eq};
 use base::Refusal;
 use floor::Floor;
 use open_floor::OpenFloor;
 use std::test::Fail;
 
 #[test]
-fn bounds(rt: HostRuntime) {
+fn bounds() -> Result<(), Fail> {
     for (width, height) in [(15, 17), (17, 15), (2, 2), (127, 2), (3, 2)] {
-        assert!(rt; OpenFloor::new(width, height).is_ok());
+        check(OpenFloor::new(width, height).is_ok())?;
     }
     for (width, height) in [(16, 16), (1, 5), (5, 1), (0, 0), (128, 2), (255, 255)] {
-        assert_eq!(rt; OpenFloor::new(width, height).err(), Some(Refusal::Size));
+        check_eq(OpenFloor::new(width, height).err(), Some(Refusal::Size))?;
     }
+    Ok(())
 }
 
 // Columns 0 to 2 and rows 0 and 1:
 //   0 1 2
 //   3 4 5
 #[test]
-fn three_by_two(rt: HostRuntime) -> Result<(), Fail> {
+fn three_by_two() -> Result<(), Fail> {
     let Ok(floor) = OpenFloor::new(3, 2) else {
         return Err(Fail::new("refused"));
     };
-    assert_eq!(rt; floor.size(), 6);
-    assert_eq!(rt; floor.reach(), 3);
+    check_eq(floor.size(), 6)?;
+    check_eq(floor.reach(), 3)?;
     for (tile, k, joined) in [
         (0, 0, Some(1)),
         (0, 1, Some(3)),
@@ -34,7 +36,7 @@ fn three_by_two(rt: HostRuntime) -> Result<(), Fail> {
         (4, 3, None),
         (6, 0, None),
     ] {
-        assert_eq!(rt; floor.joined(tile, k), joined);
+        check_eq(floor.joined(tile, k), joined)?;
     }
     for (tile, goal, pull) in [
         (0, 5, Some(3)),
@@ -45,7 +47,7 @@ fn three_by_two(rt: HostRuntime) -> Result<(), Fail> {
         (0, 6, None),
         (6, 0, None),
     ] {
-        assert_eq!(rt; floor.pull(tile, goal), pull);
+        check_eq(floor.pull(tile, goal), pull)?;
     }
     Ok(())
 }

@@ -4,6 +4,8 @@
 #[cfg(test)]
 mod adoptions;
 #[cfg(test)]
+mod checks;
+#[cfg(test)]
 mod floors;
 #[cfg(test)]
 mod readings;

@@ -1,15 +1,14 @@
 // What sheets print: each refusal of the reader with the place that it names, and the order of its tests.
+use crate::checks::check_eq;
 use runs::report;
 use std::alloc::{AllocError, Global};
-use std::process::Abort;
 use std::test::Fail;
 
 // An open floor of 3 by 2, as the first field.
 const OPEN: [u8; 5] = [1, 0, 2, 3, 2];
 
-fn prints(rt: &impl Abort, heap: Global, sheet: &[u8], text: &str) -> Result<(), Fail> {
-    assert_eq!(rt; report(heap, sheet)?.as_str(), text);
-    Ok(())
+fn prints(heap: Global, sheet: &[u8], text: &str) -> Result<(), Fail> {
+    check_eq(report(heap, sheet)?.as_str(), text)
 }
 
 // The bytes of a 3 by 2 floor, then `more`.
@@ -22,20 +21,20 @@ fn after_floor(heap: Global, more: &[u8]) -> Result<Vec<u8>, AllocError> {
 #[test]
 fn first_fields(rt: HostRuntime) -> Result<(), Fail> {
     let heap = rt.alloc();
-    prints(&rt, heap, &[], "stop sheet 20 0\n")?;
-    prints(&rt, heap, &[1], "stop sheet 17 0\n")?;
-    prints(&rt, heap, &[9, 0], "stop sheet 17 0\n")?;
-    prints(&rt, heap, &[9, 0, 1], "stop sheet 17 0\n")?;
-    prints(&rt, heap, &[9, 1, 0, 7], "stop sheet 17 0\n")?;
-    prints(&rt, heap, &[0, 0, 0], "stop sheet 18 0\n")?;
-    prints(&rt, heap, &[8, 0, 1, 7], "stop sheet 18 0\n")?;
-    prints(&rt, heap, &[3, 0, 2, 0, 0], "stop sheet 19 0\n")?;
-    prints(&rt, heap, &[2, 0, 0], "stop sheet 19 0\n")?;
-    prints(&rt, heap, &[1, 0, 3, 3, 2, 0], "stop sheet 19 0\n")?;
-    prints(&rt, heap, &[3, 0, 1, 9], "stop sheet 20 0\n")?;
-    prints(&rt, heap, &[7, 0, 0], "stop sheet 20 0\n")?;
-    prints(&rt, heap, &[1, 0, 2, 16, 16], "stop floor 1 0\n")?;
-    prints(&rt, heap, &[1, 0, 2, 1, 5, 9], "stop floor 1 0\n")
+    prints(heap, &[], "stop sheet 20 0\n")?;
+    prints(heap, &[1], "stop sheet 17 0\n")?;
+    prints(heap, &[9, 0], "stop sheet 17 0\n")?;
+    prints(heap, &[9, 0, 1], "stop sheet 17 0\n")?;
+    prints(heap, &[9, 1, 0, 7], "stop sheet 17 0\n")?;
+    prints(heap, &[0, 0, 0], "stop sheet 18 0\n")?;
+    prints(heap, &[8, 0, 1, 7], "stop sheet 18 0\n")?;
+    prints(heap, &[3, 0, 2, 0, 0], "stop sheet 19 0\n")?;
+    prints(heap, &[2, 0, 0], "stop sheet 19 0\n")?;
+    prints(heap, &[1, 0, 3, 3, 2, 0], "stop sheet 19 0\n")?;
+    prints(heap, &[3, 0, 1, 9], "stop sheet 20 0\n")?;
+    prints(heap, &[7, 0, 0], "stop sheet 20 0\n")?;
+    prints(heap, &[1, 0, 2, 16, 16], "stop floor 1 0\n")?;
+    prints(heap, &[1, 0, 2, 1, 5, 9], "stop floor 1 0\n")
 }
 
 #[test]
@@ -57,7 +56,7 @@ fn second_fields(rt: HostRuntime) -> Result<(), Fail> {
         ),
     ];
     for (more, text) in rows {
-        prints(&rt, heap, after_floor(heap, more)?.as_slice(), text)?;
+        prints(heap, after_floor(heap, more)?.as_slice(), text)?;
     }
     Ok(())
 }
@@ -90,7 +89,7 @@ fn later_fields(rt: HostRuntime) -> Result<(), Fail> {
         (&[3, 0, 1, 1, 7, 0], "floor 6 3\nok\nstop sheet 17 9\n"),
     ];
     for (more, text) in rows {
-        prints(&rt, heap, after_floor(heap, more)?.as_slice(), text)?;
+        prints(heap, after_floor(heap, more)?.as_slice(), text)?;
     }
     Ok(())
 }
@@ -103,8 +102,8 @@ fn longest(rt: HostRuntime) -> Result<(), Fail> {
     for _ in 0..19997 {
         sheet.extend_from_slice(&[7, 0, 0])?;
     }
-    assert_eq!(rt; sheet.len(), 60000);
-    prints(&rt, heap, sheet.as_slice(), "floor 6 3\nok\n")?;
+    check_eq(sheet.len(), 60000)?;
+    prints(heap, sheet.as_slice(), "floor 6 3\nok\n")?;
     sheet.push(0)?;
-    prints(&rt, heap, sheet.as_slice(), "stop sheet 16 0\n")
+    prints(heap, sheet.as_slice(), "stop sheet 16 0\n")
 }

@@ -1,40 +1,42 @@
 // Surveys: each refusal, the order of the tests, and the distances that a granted survey writes.
+use crate::checks::{check, check_eq};
 use base::Refusal;
 use drawn_floor::survey;
 use floor::{Pull, Tile};
-use std::process::Abort;
+use std::test::Fail;
 
 // Tile 0 joined to the tiles 1 to 7.
 const STAR: [u8; 14] = [0, 1, 0, 2, 0, 3, 0, 4, 0, 5, 0, 6, 0, 7];
 
 // A survey that is handed `places` sevens, 64 at most, is refused so and leaves each of them.
-fn refused(rt: &impl Abort, places: usize, size: Tile, links: &[u8], refusal: Refusal) {
+fn refused(places: usize, size: Tile, links: &[u8], refusal: Refusal) -> Result<(), Fail> {
     let mut numbers = [7; 64];
-    assert!(rt; places <= 64);
-    assert_eq!(rt;
+    check(places <= 64)?;
+    check_eq(
         survey(size, links, &mut numbers[0..places]).err(),
-        Some(refusal)
-    );
-    assert_eq!(rt; numbers, [7; 64]);
+        Some(refusal),
+    )?;
+    check_eq(numbers, [7; 64])
 }
 
 // A survey that is handed 64 sevens is granted, writes these rows one after the other, and leaves the other places.
-fn writes<const N: usize>(rt: &impl Abort, size: Tile, links: &[u8], rows: [[Pull; N]; N]) {
+fn writes<const N: usize>(size: Tile, links: &[u8], rows: [[Pull; N]; N]) -> Result<(), Fail> {
     let mut numbers = [7; 64];
-    assert!(rt; survey(size, links, &mut numbers).is_ok());
+    check(survey(size, links, &mut numbers).is_ok())?;
     let mut written = numbers.iter();
     for row in rows {
         for steps in row {
-            assert_eq!(rt; written.next(), Some(&steps));
+            check_eq(written.next(), Some(&steps))?;
         }
     }
     for number in written {
-        assert_eq!(rt; *number, 7);
+        check_eq(*number, 7)?;
     }
+    Ok(())
 }
 
 #[test]
-fn pairs_refused(rt: HostRuntime) {
+fn pairs_refused() -> Result<(), Fail> {
     let rows: [(Tile, &[u8], Refusal); 13] = [
         (0, &[], Refusal::Size),
         (1, &[], Refusal::Size),
@@ -51,12 +53,13 @@ fn pairs_refused(rt: HostRuntime) {
         (3, &[0, 1, 1, 2, 0, 2, 0, 1], Refusal::Twice),
     ];
     for (size, links, refusal) in rows {
-        refused(&rt, 64, size, links, refusal);
+        refused(64, size, links, refusal)?;
     }
+    Ok(())
 }
 
 #[test]
-fn drawings_refused(rt: HostRuntime) {
+fn drawings_refused() -> Result<(), Fail> {
     let rows: [(Tile, &[u8], Refusal); 10] = [
         (8, &STAR, Refusal::Crowded),
         // Tile 7 joined to the tiles 0 to 6, named second and first.
@@ -87,13 +90,14 @@ fn drawings_refused(rt: HostRuntime) {
         ),
     ];
     for (size, links, refusal) in rows {
-        refused(&rt, 64, size, links, refusal);
+        refused(64, size, links, refusal)?;
     }
+    Ok(())
 }
 
 // Each but the last two breaks a later rule too, if only that its list is too short.
 #[test]
-fn order(rt: HostRuntime) {
+fn order() -> Result<(), Fail> {
     let rows: [(usize, Tile, &[u8], Refusal); 15] = [
         (3, 2, &[0, 1, 1], Refusal::Size),
         (8, 3, &[9], Refusal::Ragged),
@@ -119,26 +123,25 @@ fn order(rt: HostRuntime) {
         (0, 3, &[0, 1, 1, 2, 0, 2], Refusal::ShortList),
     ];
     for (places, size, links, refusal) in rows {
-        refused(&rt, places, size, links, refusal);
+        refused(places, size, links, refusal)?;
     }
+    Ok(())
 }
 
 // Row g has the steps to tile g.
 #[test]
-fn granted(rt: HostRuntime) {
+fn granted() -> Result<(), Fail> {
     let triangle = [[0, 1, 1], [1, 0, 1], [1, 1, 0]];
-    writes(&rt, 3, &[0, 1, 1, 2, 0, 2], triangle);
-    writes(&rt, 3, &[2, 0, 2, 1, 1, 0], triangle);
+    writes(3, &[0, 1, 1, 2, 0, 2], triangle)?;
+    writes(3, &[2, 0, 2, 1, 1, 0], triangle)?;
     // A ring of four: two steps to the tile across.
     writes(
-        &rt,
         4,
         &[0, 1, 1, 2, 2, 3, 3, 0],
         [[0, 1, 2, 1], [1, 0, 1, 2], [2, 1, 0, 1], [1, 2, 1, 0]],
-    );
+    )?;
     // Two triangles that share tile 2: two steps from one to the other, by way of it.
     writes(
-        &rt,
         5,
         &[0, 1, 1, 2, 0, 2, 2, 3, 3, 4, 2, 4],
         [
@@ -148,14 +151,13 @@ fn granted(rt: HostRuntime) {
             [2, 2, 1, 0, 1],
             [2, 2, 1, 1, 0],
         ],
-    );
+    )
 }
 
 // Three triangles that share tile 0, which six tiles are joined to: not too many.
 #[test]
-fn six_joined(rt: HostRuntime) {
+fn six_joined() -> Result<(), Fail> {
     writes(
-        &rt,
         7,
         &[0, 1, 0, 2, 1, 2, 0, 3, 0, 4, 3, 4, 0, 5, 0, 6, 5, 6],
         [
@@ -167,13 +169,13 @@ fn six_joined(rt: HostRuntime) {
             [1, 2, 2, 2, 2, 0, 1],
             [1, 2, 2, 2, 2, 1, 0],
         ],
-    );
+    )
 }
 
 // A list of just enough places.
 #[test]
-fn no_place_left(rt: HostRuntime) {
+fn no_place_left() -> Result<(), Fail> {
     let mut numbers = [7; 9];
-    assert!(rt; survey(3, &[0, 1, 1, 2, 0, 2], &mut numbers).is_ok());
-    assert_eq!(rt; numbers, [0, 1, 1, 1, 0, 1, 1, 1, 0]);
+    check(survey(3, &[0, 1, 1, 2, 0, 2], &mut numbers).is_ok())?;
+    check_eq(numbers, [0, 1, 1, 1, 0, 1, 1, 1, 0])
 }
