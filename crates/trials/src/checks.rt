@@ -1,11 +1,11 @@
 // Comparisons in tests, which say what they found.
-ghost use Rattle.std.specs.Prelude.{OnOk, IsTrue};
+ghost use Rattle.std.specs.Prelude.{◌↔◌, IsOk, IsTrue};
 
 use std::fmt::Debug;
 use std::test::Fail;
 
 pub(crate) fn check(holds: bool) -> Result<(), Fail>
-    ensures { OnOk result (IsTrue holds) }
+    ensures { IsOk result ↔ IsTrue holds }
 {
     if holds {
         Ok(())
@@ -14,7 +14,9 @@ pub(crate) fn check(holds: bool) -> Result<(), Fail>
     }
 }
 
-pub(crate) fn check_eq<T: Debug + PartialEq + Drop>(found: T, wanted: T) -> Result<(), Fail> {
+pub(crate) fn check_eq<T: Debug + PartialEq + Drop>(found: T, wanted: T) -> Result<(), Fail>
+    ensures { IsOk result ↔ IsTrue (T.eq found wanted) }
+{
     if found == wanted {
         Ok(())
     } else {
