@@ -1,11 +1,11 @@
 -- The laws of a floor hold of every drawn floor whose survey finds nothing to refuse.
-use Rattle.std.proofs.Common.{◌≡◌, ℕ, ◌+◌, ◌*◌, ◌/◌, ◌%◌, ◌<◌, ◌≤◌, true, false, ltb, List, [], length, None, sym, refl, ap, ◌∙◌, inl, inr, arith}
+use Rattle.std.proofs.Common.{◌≡◌, ℕ, ◌+◌, ◌*◌, ◌/◌, ◌%◌, ◌<◌, ◌≤◌, true, false, ltb, List, length, None, sym, refl, ◌∙◌, inl, inr, arith}
 use Rattle.std.proofs.lemmas.Nat.{mul-le, mul-add-lt, div_below, mod_below}
-use Rattle.std.proofs.lemmas.Bool.{both_ways, cases_Bool, cases_lt, ltb-false}
+use Rattle.std.proofs.lemmas.Bool.{both_ways, cases_Bool, ltb-false}
 use Rattle.std.proofs.lemmas.Bool.Decides.{not_from_Decides}
-use Rattle.base.proofs.Ascending.{those-below}
 use Rattle.base.proofs.Numbers.{greatest_bound, greatest_reached, none_below}
 use Rattle.base.proofs.Testing.{passed_all, passed_both}
+use Rattle.floor.proofs.Answering.{six_from_tiles}
 use Rattle.floor.proofs.SurveyFacts.{linked_back, linked_differ, linked_inside, ring_decides, neck_decides, links_pass, length-distances, distance_place, distance_at, distance_drawn}
 use Rattle.floor.specs.Drawn.{drawn_model}
 use Rattle.floor.specs.Floors.{Laws, Nearer, Farthest, Ring, joined_to}
@@ -39,12 +39,8 @@ reached n links some =
 module _ (n : ℕ) (links : List ℕ) (known : names_stranger n (pairs_of links) ≡ false) where
   at_most_six : is_crowded n (pairs_of links) ≡ false → (t : ℕ) → length (joined_to (drawn_model n links) t) ≤ 6
   unfolding joined_to
-  at_most_six roomy t =
-      let ps = pairs_of links in
-      elim (cases_lt t n) [
-        | inl l ↦ ltb-false 6 (length (linked_to n ps t)) (none_below (λ t. ltb 6 (length (linked_to n ps t))) n roomy t l)
-        | inr l ↦ omega (arith, ap length (those-below (linked ps t) n [] tt tt (λ u k e. omega (arith, (linked_inside n ps known t u e).0))))
-      ]
+  at_most_six roomy = six_from_tiles (drawn_model n links) (linked_inside n (pairs_of links) known)
+      (λ t l. ltb-false 6 _ (none_below (λ t. ltb 6 (length (linked_to n (pairs_of links) t))) n roomy t l))
 
   ring : names_itself (pairs_of links) ≡ false → has_neck n (pairs_of links) ≡ false → (a b : ℕ) → linked (pairs_of links) a b ≡ true → Ring (drawn_model n links) a b
   ring apart none a b e =

@@ -1,12 +1,15 @@
 -- The laws of a floor hold of every open floor. A ring through two joined tiles is a unit square.
-use Rattle.std.proofs.Common.{◌≡◌, ℕ, ◌+◌, ◌-◌, ◌*◌, ◌/◌, ◌%◌, ◌<◌, ◌≤◌, true, ltb, leb, List, [], ◌∷◌, length, Option, sym, refl, ap, ◌∙◌, subst, ⊎_elim, mul_comm, add-mul, one-mul, arith}
+use Rattle.std.proofs.Common.{◌≡◌, ℕ, ◌+◌, ◌-◌, ◌*◌, ◌/◌, ◌%◌, ◌<◌, ◌≤◌, true, ltb, leb, List, [], ◌∷◌, length, Option, sym, refl, ap, ◌∙◌, subst, ⊎_elim, mul_comm, arith}
+use Rattle.std.specs.Bool.{then_some}
+use Rattle.std.specs.Int.{abs_diff}
 use Rattle.std.proofs.lemmas.Nat.{div-add-mod', mul-le, mul-add-lt, div-mul-add, mod-mul-add, div_below, le-div, mod_below}
 use Rattle.std.proofs.lemmas.Bool.{and_parts, and_from, lt-ltb, ltb-true, eq-eqb, eqb-true, cases_order, cases_lt, leb-true, le-leb, cases_eq}
 use Rattle.base.specs.Lists.{Among}
 use Rattle.base.proofs.Ascending.{Ascends, Each, those-below}
 use Rattle.floor.specs.Floors.{Laws, Nearer, Farthest, Ring, joined_to}
-use Rattle.floor.specs.Grid.{apart, steps, beside, corners, open_model}
-use Rattle.floor.specs.Sides.{somes, some_if, sides}
+use Rattle.floor.specs.Grid.{steps, beside, corners, open_model}
+use Rattle.floor.specs.Sides.{somes, sides}
+use Rattle.floor.proofs.Answering.{none_joined, six_from_tiles}
 use Rattle.floor.proofs.Optional.{ascends_if, each_if, among_if, among_rest, at_most_one}
 
 -- column x of row y
@@ -14,41 +17,41 @@ abbrev place : ℕ → ℕ → ℕ → ℕ
 place w x y = y * w + x
 
 abbrev last_side : ℕ → ℕ → ℕ → List (Option ℕ)
-last_side w n t = some_if (ltb (t + w) n) (t + w) ∷ []
+last_side w n t = then_some (ltb (t + w) n) (t + w) ∷ []
 
 abbrev later_sides : ℕ → ℕ → ℕ → List (Option ℕ)
-later_sides w n t = some_if (ltb (t % w + 1) w) (t + 1) ∷ last_side w n t
+later_sides w n t = then_some (ltb (t % w + 1) w) (t + 1) ∷ last_side w n t
 
 abbrev low_sides : ℕ → ℕ → ℕ → List (Option ℕ)
-low_sides w n t = some_if (ltb 0 (t % w)) (t - 1) ∷ later_sides w n t
+low_sides w n t = then_some (ltb 0 (t % w)) (t - 1) ∷ later_sides w n t
 
 -- another number below m, one from y
-other : (m y : ℕ) → 2 ≤ m → y < m → (z : ℕ) × (z < m) × (apart y z ≡ 1)
+other : (m y : ℕ) → 2 ≤ m → y < m → (z : ℕ) × (z < m) × (abs_diff y z ≡ 1)
 other m y two l = ⊎_elim (λ (k : y + 1 < m). (y + 1, k, omega arith)) (λ (k : m ≤ y + 1). (y - 1, omega arith, omega arith)) (cases_lt (y + 1) m)
 
 -- small facts of distances, each with few numbers in reach
-one_apart : (a b : ℕ) → apart a b ≡ 1 → a ≡ b → ⊥
+one_apart : (a b : ℕ) → abs_diff a b ≡ 1 → a ≡ b → ⊥
 one_apart a b one e = omega arith
 
-not_same : (x y u v : ℕ) → apart x u + apart y v ≡ 1 → x ≡ u → y ≡ v → ⊥
+not_same : (x y u v : ℕ) → abs_diff x u + abs_diff y v ≡ 1 → x ≡ u → y ≡ v → ⊥
 not_same x y u v one e f = omega arith
 
-swapped : (a b : ℕ) → apart a b ≡ apart b a
+swapped : (a b : ℕ) → abs_diff a b ≡ abs_diff b a
 swapped a b = omega arith
 
-none : (a : ℕ) → apart a a ≡ 0
+none : (a : ℕ) → abs_diff a a ≡ 0
 none a = omega arith
 
-one_way : (x y u v : ℕ) → apart x u + apart y v ≡ 1 → y ≡ v → apart x u ≡ 1
+one_way : (x y u v : ℕ) → abs_diff x u + abs_diff y v ≡ 1 → y ≡ v → abs_diff x u ≡ 1
 one_way x y u v one e = omega arith
 
-other_way : (x y u v : ℕ) → apart x u + apart y v ≡ 1 → (y ≡ v → ⊥) → (x ≡ u) × (apart y v ≡ 1)
+other_way : (x y u v : ℕ) → abs_diff x u + abs_diff y v ≡ 1 → (y ≡ v → ⊥) → (x ≡ u) × (abs_diff y v ≡ 1)
 other_way x y u v one n = (omega arith, omega arith)
 
-along : (a b c d : ℕ) → a ≡ b → apart c d ≡ 1 → apart a b + apart c d ≡ 1
+along : (a b c d : ℕ) → a ≡ b → abs_diff c d ≡ 1 → abs_diff a b + abs_diff c d ≡ 1
 along a b c d e one = omega (arith, none a)
 
-over : (a b c d : ℕ) → c ≡ d → apart a b ≡ 1 → apart a b + apart c d ≡ 1
+over : (a b c d : ℕ) → c ≡ d → abs_diff a b ≡ 1 → abs_diff a b + abs_diff c d ≡ 1
 over a b c d e one = omega (arith, none c)
 
 module _ (w h : ℕ) (wide : 2 ≤ w) (high : 2 ≤ h) (small : w * h ≤ 255) where
@@ -79,10 +82,10 @@ module _ (w h : ℕ) (wide : 2 ≤ w) (high : 2 ≤ h) (small : w * h ≤ 255) w
       let b = and_parts _ _ a.1 in
       (ltb-true s (w * h) a.0, ltb-true t (w * h) b.0, eqb-true _ 1 b.1)
 
-  steps-place : (x y u v : ℕ) → x < w → u < w → steps w (place w x y) (place w u v) ≡ apart x u + apart y v
+  steps-place : (x y u v : ℕ) → x < w → u < w → steps w (place w x y) (place w u v) ≡ abs_diff x u + abs_diff y v
   steps-place x y u v lx lu = rw (col_place x y lx, row_place x y lx, col_place u v lu, row_place u v lu)
 
-  joins_place : (x y u v : ℕ) → x < w → y < h → u < w → v < h → apart x u + apart y v ≡ 1 → beside w h (place w x y) (place w u v) ≡ true
+  joins_place : (x y u v : ℕ) → x < w → y < h → u < w → v < h → abs_diff x u + abs_diff y v ≡ 1 → beside w h (place w x y) (place w u v) ≡ true
   joins_place x y u v lx ly lu lv e = beside_true (place w x y) (place w u v) (place_below x y lx ly) (place_below u v lu lv) (steps-place x y u v lx lu ∙ e)
 
   symmetric : (s t : ℕ) → beside w h s t ≡ true → beside w h t s ≡ true
@@ -102,7 +105,7 @@ module _ (w h : ℕ) (wide : 2 ≤ w) (high : 2 ≤ h) (small : w * h ≤ 255) w
 
   -- a step towards a goal
   module _ (x y a b : ℕ) (lx : x < w) (ly : y < h) (la : a < w) (lb : b < h) where
-    to : (u v : ℕ) → u < w → v < h → apart x u + apart y v ≡ 1 → apart u a + apart v b < apart x a + apart y b → Nearer (open_model w h) (place w x y) (place w a b)
+    to : (u v : ℕ) → u < w → v < h → abs_diff x u + abs_diff y v ≡ 1 → abs_diff u a + abs_diff v b < abs_diff x a + abs_diff y b → Nearer (open_model w h) (place w x y) (place w a b)
     to u v lu lv one less = record {
       tile = place w u v;
       joined = joins_place x y u v lx ly lu lv one;
@@ -134,19 +137,16 @@ module _ (w h : ℕ) (wide : 2 ≤ w) (high : 2 ≤ h) (small : w * h ≤ 255) w
 
   -- the tiles around t
   module _ (t : ℕ) (lt : t < w * h) where
-    joins_to : (u a b : ℕ) → place w a b ≡ u → a < w → b < h → apart (t % w) a + apart (t / w) b ≡ 1 → beside w h t u ≡ true
+    joins_to : (u a b : ℕ) → place w a b ≡ u → a < w → b < h → abs_diff (t % w) a + abs_diff (t / w) b ≡ 1 → beside w h t u ≡ true
     joins_to u a b e la lb one =
         subst (λ (v : ℕ). beside w h v u ≡ true) (of_place t) (subst (λ (v : ℕ). beside w h (place w (t % w) (t / w)) v ≡ true) e
         (joins_place (t % w) (t / w) a b (col_below t) (row_below t lt) la lb one))
 
-    up_row : (z : ℕ) → (z + 1) * w ≡ z * w + w
-    up_row z = add-mul z 1 w ∙ ap (λ v. z * w + v) (one-mul w)
-
     above_joins : w ≤ t → beside w h t (t - w) ≡ true
     above_joins l =
-        let one : 1 ≤ t / w = le-div 1 t w (omega arith) (omega (arith, one-mul w)) in
+        let one : 1 ≤ t / w = le-div 1 t w (omega arith) (omega arith) in
         let again : (t / w - 1) + 1 ≡ t / w = omega arith in
-        let row : (t / w) * w ≡ (t / w - 1) * w + w = ap (λ v. v * w) (sym again) ∙ up_row (t / w - 1) in
+        let row : (t / w) * w ≡ (t / w - 1) * w + w = omega (arith, ap (λ v. v * w) (sym again)) in
         joins_to (t - w) (t % w) (t / w - 1) (omega (arith, of_place t, row)) (col_below t) (omega (arith, row_below t lt)) (omega arith)
 
     left_joins : 0 < t % w → beside w h t (t - 1) ≡ true
@@ -156,7 +156,7 @@ module _ (w h : ℕ) (wide : 2 ≤ w) (high : 2 ≤ h) (small : w * h ≤ 255) w
     right_joins l = joins_to (t + 1) (t % w + 1) (t / w) (omega (arith, of_place t)) l (row_below t lt) (omega arith)
 
     below_place : place w (t % w) (t / w + 1) ≡ t + w
-    below_place = omega (arith, of_place t, up_row (t / w))
+    below_place = omega (arith, of_place t)
 
     below_joins : t + w < w * h → beside w h t (t + w) ≡ true
     below_joins l =
@@ -209,14 +209,14 @@ module _ (w h : ℕ) (wide : 2 ≤ w) (high : 2 ≤ h) (small : w * h ≤ 255) w
       lower : t / w < v / w → Among v (somes (sides w (w * h) t))
       lower l =
           let e : v / w ≡ t / w + 1 = omega arith in
-          let row : (v / w) * w ≡ (t / w) * w + w = ap (λ z. z * w) e ∙ up_row (t / w) in
+          let row : (v / w) * w ≡ (t / w) * w + w = omega (arith, ap (λ z. z * w) e) in
           let q : v ≡ t + w = omega (arith, of_place t, of_place v) in
           in_last (among_if (ltb (t + w) (w * h)) (t + w) [] v (lt-ltb (t + w) (w * h) (omega arith)) q)
 
       higher : v / w < t / w → Among v (somes (sides w (w * h) t))
       higher l =
           let e : t / w ≡ v / w + 1 = omega arith in
-          let row : (t / w) * w ≡ (v / w) * w + w = ap (λ z. z * w) e ∙ up_row (v / w) in
+          let row : (t / w) * w ≡ (v / w) * w + w = omega (arith, ap (λ z. z * w) e) in
           among_if (leb w t) (t - w) (low_sides w (w * h) t) v (le-leb w t (omega (arith, of_place t))) (omega (arith, of_place t, of_place v))
 
       found : Among v (somes (sides w (w * h) t))
@@ -227,10 +227,11 @@ module _ (w h : ℕ) (wide : 2 ≤ w) (high : 2 ≤ h) (small : w * h ≤ 255) w
     around_is = those-below (beside w h t) (w * h) (somes (sides w (w * h) t)) around_ascends around_beside
         (λ v k e. found v (beside_parts t v e).1 (beside_parts t v e).2)
 
-  -- nothing is joined to what is no tile
+  tiles_only : (s t : ℕ) → beside w h s t ≡ true → (s < w * h) × (t < w * h)
+  tiles_only s t e = let a = beside_parts s t e in (a.0, a.1)
+
   pub around_none : (t : ℕ) → w * h ≤ t → joined_to (open_model w h) t ≡ []
-  unfolding joined_to
-  around_none t l = those-below (beside w h t) (w * h) [] tt tt (λ v k e. absurd (omega (arith, (beside_parts t v e).0)))
+  around_none = none_joined (open_model w h) tiles_only
 
   six_on : (t : ℕ) → t < w * h → length (joined_to (open_model w h) t) ≤ 6
   six_on t l = omega (
@@ -243,14 +244,14 @@ module _ (w h : ℕ) (wide : 2 ≤ w) (high : 2 ≤ h) (small : w * h ≤ 255) w
   )
 
   at_most_six : (t : ℕ) → length (joined_to (open_model w h) t) ≤ 6
-  at_most_six t = ⊎_elim (λ l. six_on t l) (λ l. omega (arith, ap length (around_none t l))) (cases_lt t (w * h))
+  at_most_six = six_from_tiles (open_model w h) tiles_only six_on
 
   -- rings: the four tiles of a square
   differs : (x y u v : ℕ) → x < w → u < w → (x ≡ u → y ≡ v → ⊥) → place w x y ≡ place w u v → ⊥
   differs x y u v lx lu differ e = differ (sym (col_place x y lx) ∙ ap (λ z. z % w) e ∙ col_place u v lu) (sym (row_place x y lx) ∙ ap (λ z. z / w) e ∙ row_place u v lu)
 
   square : (x y u v a b c d : ℕ) → (x < w) × (y < h) → (u < w) × (v < h) → (a < w) × (b < h) → (c < w) × (d < h)
-      → apart x u + apart y v ≡ 1 → apart u a + apart v b ≡ 1 → apart a c + apart b d ≡ 1 → apart c x + apart d y ≡ 1
+      → abs_diff x u + abs_diff y v ≡ 1 → abs_diff u a + abs_diff v b ≡ 1 → abs_diff a c + abs_diff b d ≡ 1 → abs_diff c x + abs_diff d y ≡ 1
       → (x ≡ a → y ≡ b → ⊥) → (u ≡ c → v ≡ d → ⊥) → Ring (open_model w h) (place w x y) (place w u v)
   square x y u v a b c d p q r s one two three fours across down = record {
     third = place w a b;
@@ -271,22 +272,22 @@ module _ (w h : ℕ) (wide : 2 ≤ w) (high : 2 ≤ h) (small : w * h ≤ 255) w
     );
   }
 
-  ring_place : (x y u v : ℕ) → (x < w) × (y < h) → (u < w) × (v < h) → apart x u + apart y v ≡ 1 → Ring (open_model w h) (place w x y) (place w u v)
+  ring_place : (x y u v : ℕ) → (x < w) × (y < h) → (u < w) × (v < h) → abs_diff x u + abs_diff y v ≡ 1 → Ring (open_model w h) (place w x y) (place w u v)
   ring_place x y u v p q one = ⊎_elim
       (λ (e : y ≡ v). let o = other h y high p.1 in
-      let z = o.0 in let lz : z < h = o.1 in let bz : apart y z ≡ 1 = o.2 in
-      let bx : apart x u ≡ 1 = one_way x y u v one e in
+      let z = o.0 in let lz : z < h = o.1 in let bz : abs_diff y z ≡ 1 = o.2 in
+      let bx : abs_diff x u ≡ 1 = one_way x y u v one e in
       square x y u v u z x z p q (q.0, lz) (p.0, lz) one
-      (along u u v z refl (ap (λ k. apart k z) (sym e) ∙ bz))
+      (along u u v z refl (ap (λ k. abs_diff k z) (sym e) ∙ bz))
       (over u x z z refl (swapped u x ∙ bx))
       (along x x z y refl (swapped z y ∙ bz))
       (λ f g. one_apart y z bz g) (λ f g. one_apart x u bx (sym f)))
       (λ (n : y ≡ v → ⊥). let o = other w x wide p.0 in
-      let z = o.0 in let lz : z < w = o.1 in let bz : apart x z ≡ 1 = o.2 in
+      let z = o.0 in let lz : z < w = o.1 in let bz : abs_diff x z ≡ 1 = o.2 in
       let e : x ≡ u = (other_way x y u v one n).0 in
-      let by : apart y v ≡ 1 = (other_way x y u v one n).1 in
+      let by : abs_diff y v ≡ 1 = (other_way x y u v one n).1 in
       square x y u v z v z y p q (lz, q.1) (lz, p.1) one
-      (over u z v v refl (ap (λ k. apart k z) (sym e) ∙ bz))
+      (over u z v v refl (ap (λ k. abs_diff k z) (sym e) ∙ bz))
       (along z z v y refl (swapped v y ∙ by))
       (over z x y y refl (swapped z x ∙ bz))
       (λ f g. one_apart x z bz f) (λ f g. one_apart y v by (sym g)))
@@ -312,7 +313,7 @@ module _ (w h : ℕ) (wide : 2 ≤ w) (high : 2 ≤ h) (small : w * h ≤ 255) w
   open_laws = record {
     least_size = omega (arith, four);
     greatest_size = small;
-    tiles_only = λ s t e. ((beside_parts s t e).0, (beside_parts s t e).1);
+    tiles_only = tiles_only;
     never_itself = never_itself;
     both_ways = symmetric;
     at_most_six = at_most_six;

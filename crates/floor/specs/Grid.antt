@@ -1,12 +1,9 @@
 -- The open floor: w columns and h rows of tiles, each joined to the tiles directly left, right, above and below.
+use Rattle.std.specs.Int.{abs_diff}
 use Rattle.std.specs.Prelude.{ℕ, ◌+◌, ◌-◌, ◌*◌, ◌/◌, ◌%◌, Bool, true, false, ◌&&◌, Some, None, Option, ◌==◌, nat_le, nat_lt}
 use Rattle.base.specs.declared.refusal.Refusal.{Refusal}
 use Rattle.base.specs.declared.refusal.Refusal.TheVariants.{Size}
 use Rattle.floor.specs.Floors.{FloorModel, floor_model}
-
--- how far two numbers are apart
-abbrev pub apart : ℕ → ℕ → ℕ
-apart a b = (a - b) + (b - a)
 
 -- tile y * w + x stands in column x and row y
 abbrev pub column : ℕ → ℕ → ℕ
@@ -17,7 +14,7 @@ row w t = t / w
 
 -- the columns between two tiles and the rows between them
 abbrev pub steps : ℕ → ℕ → ℕ → ℕ
-steps w s t = apart (column w s) (column w t) + apart (row w s) (row w t)
+steps w s t = abs_diff (column w s) (column w t) + abs_diff (row w s) (row w t)
 
 -- one step apart, and both on the floor
 abbrev pub beside : ℕ → ℕ → ℕ → ℕ → Bool

@@ -3,7 +3,7 @@ ghost use Rattle.std.specs.Prelude.{◌*◌, ◌≤◌};
 use floor::Tile;
 
 // A floor of `width` columns and `height` rows. Tile y * width + x stands in column x and row y.
-#[derive(Clone, Copy)]
+#[derive(Debug, Clone, Copy, PartialEq, Eq)]
 pub struct OpenFloor {
     pub(crate) width: Tile,
     pub(crate) height: Tile,

@@ -1,8 +1,7 @@
-ghost use Rattle.std.specs.Prelude.{◌≡◌, ◌+◌, ◌-◌, ◌*◌, ◌%◌, ◌<◌, IfOk, nat_le, nat_lt};
-ghost use Rattle.std.specs.List.{slice_get};
+ghost use Rattle.std.specs.Prelude.{◌≡◌, ◌*◌, ◌<◌, IfOk};
 ghost use Rattle.std.specs.Result.{result_err};
-ghost use Rattle.floor.specs.Grid.{apart, steps, beside, corners, open_refusal};
-ghost use Rattle.floor.specs.Sides.{somes, some_if, sides};
+ghost use Rattle.floor.specs.Grid.{steps, beside, corners, open_refusal};
+ghost use Rattle.floor.specs.Sides.{sides};
 ghost use Rattle.floor.proofs.GridLaws.{open_laws};
 
 use crate::grid::OpenFloor;
@@ -32,17 +31,14 @@ impl Floor for OpenFloor {
         if tile >= self.size() {
             return None;
         }
-        self.around(tile, k)
+        self.around(tile).into_iter().flatten().nth(usize::from(k))
     }
 
     fn pull(&self, tile: Tile, goal: Tile) -> Option<Pull> {
         let n = self.size();
-        if tile >= n || goal >= n {
-            return None;
-        }
-        let columns = distance(tile % self.width, goal % self.width);
-        let rows = distance(tile / self.width, goal / self.width);
-        Some(columns + rows)
+        let columns = (tile % self.width).abs_diff(goal % self.width);
+        let rows = (tile / self.width).abs_diff(goal / self.width);
+        (tile < n && goal < n).then_some(Pull::from(columns) + Pull::from(rows))
     }
 }
 
@@ -58,86 +54,18 @@ impl OpenFloor {
         Ok(OpenFloor { width, height })
     }
 
-    // The k-th, from 0, of the tiles around `tile`.
-    fn around(&self, tile: Tile, k: u8) -> Option<Tile>
+    // Above, left, right and below: each side of `tile` that the floor has there.
+    fn around(&self, tile: Tile) -> [Option<Tile>; 4]
         requires { tile < 255 }
-        ensures { result ≡ slice_get (somes (sides self.now.width (self.now.width * self.now.height) tile)) k }
+        ensures { result ≡ sides self.now.width (self.now.width * self.now.height) tile }
     {
-        let sides = [
-            self.above(tile),
-            self.left(tile),
-            self.right(tile),
-            self.below(tile),
-        ];
-        nth_present(&sides, k)
+        let column = tile % self.width;
+        let size = self.size();
+        [
+            tile.checked_sub(self.width),
+            (column > 0).then(|| tile - 1),
+            (column + 1 < self.width).then(|| tile + 1),
+            tile.checked_add(self.width).filter(|below| *below < size),
+        ]
     }
-
-    fn above(&self, tile: Tile) -> Option<Tile>
-        ensures { result ≡ some_if (nat_le self.now.width tile) (tile - self.now.width) }
-    {
-        if self.width <= tile {
-            Some(tile - self.width)
-        } else {
-            None
-        }
-    }
-
-    fn left(&self, tile: Tile) -> Option<Tile>
-        ensures { result ≡ some_if (nat_lt 0 (tile % self.now.width)) (tile - 1) }
-    {
-        if tile % self.width > 0 {
-            Some(tile - 1)
-        } else {
-            None
-        }
-    }
-
-    fn right(&self, tile: Tile) -> Option<Tile>
-        requires { tile < 255 }
-        ensures { result ≡ some_if (nat_lt (tile % self.now.width + 1) self.now.width) (tile + 1) }
-    {
-        if tile % self.width + 1 < self.width {
-            Some(tile + 1)
-        } else {
-            None
-        }
-    }
-
-    fn below(&self, tile: Tile) -> Option<Tile>
-        ensures { result ≡ some_if (nat_lt (tile + self.now.width) (self.now.width * self.now.height)) (tile + self.now.width) }
-    {
-        if u16::from(tile) + u16::from(self.width) < u16::from(self.size()) {
-            Some(tile + self.width)
-        } else {
-            None
-        }
-    }
-}
-
-// How far two columns or rows are apart.
-fn distance(a: Tile, b: Tile) -> Pull
-    ensures value { result ≡ apart a b }
-    ensures bound { result < 256 }
-{
-    if a < b {
-        Pull::from(b - a)
-    } else {
-        Pull::from(a - b)
-    }
-}
-
-// The k-th, from 0, of the tiles that are there.
-fn nth_present(tiles: &[Option<Tile>], k: u8) -> Option<Tile>
-    ensures { result ≡ slice_get (somes tiles.now) k }
-{
-    let mut ahead = k;
-    for tile in tiles {
-        if let Some(tile) = tile {
-            if ahead == 0 {
-                return Some(*tile);
-            }
-            ahead -= 1;
-        }
-    }
-    None
 }

@@ -1,5 +1,10 @@
 use Rattle.std.proofs.Common.{sym, ap, ◌∙◌, arith}
+use Rattle.std.proofs.lemmas.Iterator.Adapters.{YieldsList-from_flatten, YieldsList-from_once, option_map_id}
+use Rattle.std.proofs.lemmas.Iterator.Consumers.{nth_from_yields_List, YieldsList-from_shown}
+use Rattle.std.specs.Array.Iter.{array_into_iter_items, array_steps}
 use Rattle.std.specs.List.{slice_get}
+use Rattle.std.specs.Option.{option_to_list}
+use Rattle.floor.specs.Sides.{somes}
 use Rattle.floor.proofs.GridLaws.{around_is, around_none}
 use Rattle.open_floor.proofs.questions.OpenFloorFloor.joined.Goals as goal
 
@@ -7,4 +12,11 @@ pub returns-then-tile-size : goal.returns-then-tile-size
 returns-then-tile-size c = let f = c.args.self.now in sym (ap (λ l. slice_get l c.args.k) (around_none f.width f.height f.wide f.high f.small c.args.tile (omega arith)))
 
 pub returns : goal.returns
-returns c = let f = c.args.self.now in c.around.ensures ∙ sym (ap (λ l. slice_get l c.args.k) (around_is f.width f.height f.wide f.high f.small c.args.tile (omega arith)))
+returns c =
+    let f = c.args.self.now in
+    let held = YieldsList-from_shown array_steps (λ x. x) array_into_iter_items (λ s t h. h.0) (λ s x t h. h) c.flatten.result.iter in
+    let there = nth_from_yields_List c.nth.result c.nth.new.self c.from.result c.nth.ensures.ran
+    (YieldsList-from_flatten {s = c.flatten.result} _ _ (λ x. x) option_to_list (λ o it gives. YieldsList-from_once o gives.0) held c.flatten.ensures.front c.flatten.ensures.back c.flatten.ensures.done) in
+    let all = ap array_into_iter_items c.flatten.ensures.source ∙ c.into_iter.ensures.into_iter_gives.0 ∙ c.around.ensures in
+    let around = around_is f.width f.height f.wide f.high f.small c.args.tile (omega arith) in
+    sym (option_map_id c.nth.result) ∙ there ∙ ap (λ xs. slice_get (somes xs) c.from.result) all ∙ sym (ap (λ l. slice_get l c.from.result) around) ∙ ap (slice_get _) c.from.ensures
