@@ -6,7 +6,7 @@ use Rattle.floor.specs.Walks.{Walk, stay, step, Shortest}
 
 -- x and y are a and b, in either order
 abbrev pub Pair : ℕ → ℕ → ℕ → ℕ → Type 0
-Pair a b x y = ((x ≡ a) × (y ≡ b)) ⊎ ((x ≡ b) × (y ≡ a))
+Pair a b x y = ((a ≡ x) × (b ≡ y)) ⊎ ((a ≡ y) × (b ≡ x))
 
 module _ {Goes : ℕ → ℕ → Type 0} where
   -- the tiles of a walk, all but the last
@@ -59,8 +59,8 @@ module _ (floor : FloorModel) where
 
   -- a step from a tile that is neither a nor b
   elsewhere : (a b x y : ℕ) → (a ≡ x → ⊥) → (b ≡ x → ⊥) → Pair a b x y → ⊥
-  elsewhere a b x y p q (inl e) = p (sym e.0)
-  elsewhere a b x y p q (inr e) = q (sym e.0)
+  elsewhere a b x y p q (inl e) = p e.0
+  elsewhere a b x y p q (inr e) = q e.1
 
   walked : (a b x : ℕ) (ys : List ℕ) → (a ≡ x → ⊥) → (b ≡ x → ⊥) → Nowhere a ys → Nowhere b ys → Leads floor a x ys → (k : ℕ) × Walk (λ x y. Joined floor x y × (Pair a b x y → ⊥)) x a k
   walked a b x [] p q u v j = (1, step (j, elsewhere a b x a p q) stay)
@@ -77,5 +77,5 @@ module _ (floor : FloorModel) where
       (suc rest.0, step (r.closed.1.0, leaves a b r.third a_off.0 a_off.1.0) rest.1)
     where
       leaves : (a b c : ℕ) → (a ≡ b → ⊥) → (a ≡ c → ⊥) → Pair a b b c → ⊥
-      leaves a b c p q (inl e) = p (sym e.0)
-      leaves a b c p q (inr e) = q (sym e.1)
+      leaves a b c p q (inl e) = p e.0
+      leaves a b c p q (inr e) = q e.0

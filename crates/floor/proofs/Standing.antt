@@ -1,13 +1,14 @@
 -- Size, links and numbers that stand as a granted survey leaves them.
-use Rattle.std.proofs.Common.{◌≡◌, ℕ, ◌+◌, ◌*◌, ◌<◌, ◌≤◌, true, not, eqb, ltb, List, [], ◌∷◌, ◌++◌, length, get_or, take, drop, is_some, Some, None, Decides, Option, sym, refl, ap, ◌∙◌}
+use Rattle.std.proofs.Common.{◌≡◌, ℕ, ◌+◌, ◌*◌, ◌<◌, ◌≤◌, true, ltb, List, [], ◌∷◌, ◌++◌, length, get_or, take, drop, is_none, Some, None, Decides, Option, sym, refl, ap, ◌∙◌}
 use Rattle.std.proofs.lemmas.Nat.{mul-add-lt}
 use Rattle.std.proofs.lemmas.List.{get_or-take, take_at}
-use Rattle.std.proofs.lemmas.Bool.{and_parts, and_from, eqb-true, eq-eqb, ltb-false, false≢true}
+use Rattle.std.proofs.lemmas.Bool.{ltb-false, false≢true}
+use Rattle.std.proofs.lemmas.Slice.Eq.{bytes_eq-Decides}
 use Rattle.std.proofs.lemmas.Bool.Decides.{Decides-and}
 use Rattle.base.proofs.Testing.{passed_all, passed_both}
 use Rattle.base.specs.declared.refusal.Refusal.{Refusal}
 use Rattle.base.specs.declared.refusal.Refusal.TheVariants.{ShortList}
-use Rattle.floor.specs.Drawn.{drawn_model, same_numbers, stands_surveyed}
+use Rattle.floor.specs.Drawn.{drawn_model, stands_surveyed}
 use Rattle.floor.specs.Floors.{Laws}
 use Rattle.floor.specs.Links.{pairs_of, linked}
 use Rattle.floor.specs.Survey.{link_tests, walk_tests, drawing_refusal, survey_refusal, distances, after_survey}
@@ -15,28 +16,13 @@ use Rattle.floor.specs.Walks.{distance}
 use Rattle.floor.proofs.DrawnLaws.{drawn_laws}
 use Rattle.floor.proofs.SurveyFacts.{distance_at, length-distances}
 
-same_is : (xs ys : List ℕ) → same_numbers xs ys ≡ true → xs ≡ ys
-same_is [] [] e = refl
-same_is [] (y ∷ ys) e = absurd (false≢true e)
-same_is (x ∷ xs) [] e = absurd (false≢true e)
-same_is (x ∷ xs) (y ∷ ys) e =
-    let both = and_parts (eqb x y) (same_numbers xs ys) e in
-    ap (λ z. z ∷ xs) (eqb-true x y both.0) ∙ ap (λ zs. y ∷ zs) (same_is xs ys both.1)
-
-same_itself : (xs : List ℕ) → same_numbers xs xs ≡ true
-same_itself [] = refl
-same_itself (x ∷ xs) = and_from (eqb x x) (same_numbers xs xs) (eq-eqb x x refl) (same_itself xs)
-
-pub same_numbers_decides : (xs ys : List ℕ) → Decides (same_numbers xs ys) (xs ≡ ys)
-same_numbers_decides xs ys = (same_is xs ys, λ e. ap (λ zs. same_numbers zs ys) e ∙ same_itself ys)
-
-none_decides : (o : Option Refusal) → Decides (not (is_some o)) (o ≡ None)
+none_decides : (o : Option Refusal) → Decides (is_none o) (o ≡ None)
 none_decides None = (λ e. refl, λ e. refl)
-none_decides (Some r) = (λ e. absurd (false≢true e), λ e. ap (λ o. not (is_some o)) e)
+none_decides (Some r) = (λ e. absurd (false≢true e), λ e. ap is_none e)
 
 pub stands_decides : (n : ℕ) (links numbers : List ℕ) → Decides (stands_surveyed n links numbers) ((survey_refusal n links (length numbers) ≡ None) × (take (n * n) numbers ≡ distances n links))
 stands_decides n links numbers =
-    Decides-and (not (is_some (survey_refusal n links (length numbers)))) (same_numbers (take (n * n) numbers) (distances n links)) (none_decides (survey_refusal n links (length numbers))) (same_numbers_decides (take (n * n) numbers) (distances n links))
+    Decides-and _ _ (none_decides (survey_refusal n links (length numbers))) (bytes_eq-Decides (take (n * n) numbers) (distances n links))
 
 -- a granted survey tells that the drawing is a floor and that the list has room
 pub granted_parts : (n : ℕ) (links : List ℕ) (places : ℕ) → survey_refusal n links places ≡ None → (drawing_refusal n links ≡ None) × (n * n ≤ places)

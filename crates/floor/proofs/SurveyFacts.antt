@@ -1,5 +1,5 @@
 -- What the tests of a survey tell of links, walks and rings, and what a survey answers and writes.
-use Rattle.std.proofs.Common.{◌≡◌, ℕ, ◌+◌, ◌*◌, ◌/◌, ◌%◌, ◌<◌, ◌≤◌, Bool, true, false, not, ◌||◌, eqb, ltb, leb, ◌⊎◌, List, [], ◌∷◌, ◌++◌, length, get_or, drop, Some, None, Decides, Option, sym, refl, ap, ◌∙◌, subst, inl, inr, arith}
+use Rattle.std.proofs.Common.{◌≡◌, ℕ, ◌+◌, ◌*◌, ◌/◌, ◌%◌, ◌<◌, ◌≤◌, Bool, true, false, not, ◌||◌, eqb, ltb, leb, List, [], ◌∷◌, ◌++◌, length, get_or, drop, Some, None, Decides, Option, sym, refl, ap, ◌∙◌, subst, inl, inr, arith}
 use Rattle.std.proofs.lemmas.Nat.{mul-add-lt, div-mul-add, mod-mul-add}
 use Rattle.std.proofs.lemmas.List.{get_or-map, get_or_append_left, length-map}
 use Rattle.std.proofs.lemmas.Bool.{and_parts, and_from, or_parts, eqb-false, leb-false, ltb-false, both_ways, true≢false, false≢true, not-true, not-false, not_from_false}
@@ -20,20 +20,9 @@ use Rattle.floor.specs.Survey.{names_stranger, names_itself, is_split, linked_wi
 use Rattle.floor.specs.Walks.{Walk, Shortest, By, comes_to, distance}
 
 -- links
-pub joins_two_decides : (p : ℕ × ℕ) (a b : ℕ) → Decides (joins_two p a b) (((p.0 ≡ a) × (p.1 ≡ b)) ⊎ ((p.0 ≡ b) × (p.1 ≡ a)))
+pub joins_two_decides : (p : ℕ × ℕ) (a b : ℕ) → Decides (joins_two p a b) (Pair p.0 p.1 a b)
 joins_two_decides p a b =
     Decides-or _ _ (Decides-and _ _ (Decides-eqb p.0 a) (Decides-eqb p.1 b)) (Decides-and _ _ (Decides-eqb p.0 b) (Decides-eqb p.1 a))
-
-pub pair_decides : (a b x y : ℕ) → Decides (joins_two (a, b) x y) (Pair a b x y)
-pair_decides a b x y = Decides-like _ to from (joins_two_decides (a, b) x y)
-  where
-    to : {a b x y : ℕ} → ((a ≡ x) × (b ≡ y)) ⊎ ((a ≡ y) × (b ≡ x)) → Pair a b x y
-    to (inl e) = inl (sym e.0, sym e.1)
-    to (inr e) = inr (sym e.1, sym e.0)
-
-    from : {a b x y : ℕ} → Pair a b x y → ((a ≡ x) × (b ≡ y)) ⊎ ((a ≡ y) × (b ≡ x))
-    from (inl e) = inl (sym e.0, sym e.1)
-    from (inr e) = inr (sym e.1, sym e.0)
 
 pub joins_two_back : (p : ℕ × ℕ) (a b : ℕ) → joins_two p a b ≡ true → joins_two p b a ≡ true
 joins_two_back p a b e = elim ((joins_two_decides p a b).0 e) [ inl s ↦ (joins_two_decides p b a).1 (inr s) | inr s ↦ (joins_two_decides p b a).1 (inl s) ]
@@ -61,7 +50,7 @@ without_back ps p a b e =
     (not_from_false (joins_two p b a) (false_by (joins_two p b a) (λ j. both_ways (joins_two p a b) (not-true (joins_two p a b) both.1) (joins_two_back p b a j))))
 
 pub without_decides : (ps : List (ℕ × ℕ)) (a b x y : ℕ) → Decides (linked_without ps (a, b) x y) ((linked ps x y ≡ true) × (Pair a b x y → ⊥))
-without_decides ps a b x y = Decides-and _ _ (λ e. e, λ e. e) (Decides-not _ (pair_decides a b x y))
+without_decides ps a b x y = Decides-and _ _ (λ e. e, λ e. e) (Decides-not _ (joins_two_decides (a, b) x y))
 
 module _ (n : ℕ) (ps : List (ℕ × ℕ)) (known : names_stranger n ps ≡ false) where
   pub linked_inside : (a b : ℕ) → linked ps a b ≡ true → (a < n) × (b < n)
@@ -105,8 +94,8 @@ module _ (n : ℕ) (links : List ℕ) (known : names_stranger n (pairs_of links)
       (walk_back (without_back ps (a, b)) (walk_along (λ x y j. (without_decides ps a b x y).1 (j.0, λ p. j.1 (swapped p))) w.1))
     where
       swapped : {a b x y : ℕ} → Pair a b x y → Pair b a x y
-      swapped (inl e) = inr e
-      swapped (inr e) = inl e
+      swapped (inl e) = inr (e.1, e.0)
+      swapped (inr e) = inl (e.1, e.0)
 
   pub ring_decides : (a b : ℕ) → linked (pairs_of links) a b ≡ true → (a ≡ b → ⊥) → Decides (is_in_ring n (pairs_of links) (a, b)) (Ring (drawn_model n links) a b)
   ring_decides a b e differ =

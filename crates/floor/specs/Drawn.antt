@@ -1,5 +1,6 @@
 -- What a drawn floor means, and what the answers of a survey say of walks and rings.
-use Rattle.std.specs.Prelude.{◌≡◌, ℕ, ◌+◌, ◌*◌, ◌<◌, Bool, true, false, not, ◌&&◌, List, [], ◌∷◌, length, take, is_some, Some, None, Option, ◌==◌, slice_index}
+use Rattle.std.specs.Prelude.{◌≡◌, ℕ, ◌+◌, ◌*◌, ◌<◌, Bool, ◌&&◌, List, length, take, is_none, Some, None, Option, nat_eq, slice_index}
+use Rattle.std.specs.Cmp.Lexicographic.{pointwise}
 use Rattle.base.specs.Lists.{greatest}
 use Rattle.base.specs.Refusals.{first_refusal}
 use Rattle.base.specs.declared.refusal.Refusal.{Refusal}
@@ -13,15 +14,9 @@ use Rattle.floor.specs.Walks.{Walk, Shortest, distance}
 abbrev pub drawn_model : ℕ → List ℕ → FloorModel
 drawn_model n links = floor_model n (linked (pairs_of links)) (distance (linked (pairs_of links)) n) (greatest (distances n links))
 
-abbrev pub same_numbers : List ℕ → List ℕ → Bool
-same_numbers [] [] = true
-same_numbers [] (y ∷ ys) = false
-same_numbers (x ∷ xs) [] = false
-same_numbers (x ∷ xs) (y ∷ ys) = x == y && same_numbers xs ys
-
 -- size, links and numbers stand as a granted survey leaves them
 abbrev pub stands_surveyed : ℕ → List ℕ → List ℕ → Bool
-stands_surveyed n links numbers = not (is_some (survey_refusal n links (length numbers))) && same_numbers (take (n * n) numbers) (distances n links)
+stands_surveyed n links numbers = is_none (survey_refusal n links (length numbers)) && pointwise nat_eq (take (n * n) numbers) (distances n links)
 
 -- some tile has no walk to tile 0
 abbrev pub CutOff : ℕ → List ℕ → Type 0
