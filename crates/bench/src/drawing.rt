@@ -1,34 +1,29 @@
-ghost use Rattle.std.specs.Prelude.{◌≡◌, ◌+◌, ◌%◌, ◌<◌, length};
+ghost use Rattle.std.specs.Prelude.{◌≡◌, ◌+◌, ◌%◌, ◌<◌};
 
 use floor::Tile;
+use std::alloc::{AllocError, Global};
 
 // As many tiles as a floor can have.
 pub(crate) const TILES: Tile = 255;
 
-// Six joined tiles for each tile, and each pair counted once: a drawing can have no more.
-pub(crate) const PAIRS: usize = 765;
-
-// Two bytes for each pair.
-pub(crate) const LINKS: usize = 1530;
-
-// The tile so many places further on; tile 0 comes after the last, so that every tile has as many joined tiles.
-fn tile_after(tile: usize, places: usize) -> Tile
-    requires tile { tile < 255 }
-    requires places { places < 4 }
-    ensures { result ≡ (tile + places) % 255 }
+// Tile 0 comes after the last, so that every tile has as many joined tiles.
+fn next(tile: Tile) -> Tile
+    requires { tile < 255 }
+    ensures { result ≡ (tile + 1) % 255 }
 {
-    ((tile + places) % usize::from(TILES)) as u8
+    (tile + 1) % TILES
 }
 
-// Joins each tile to the three that come after it.
-pub(crate) fn largest_links() -> [u8; LINKS]
-    ensures { length result ≡ 1530 }
+// Joins a tile to the three that come after it: two bytes for each pair.
+fn three_pairs(tile: Tile) -> [Tile; 6]
+    requires { tile < 255 }
 {
-    let mut links = [0; LINKS];
-    for pair in 0..PAIRS {
-        let tile = pair / 3;
-        links[2 * pair] = tile as u8;
-        links[2 * pair + 1] = tile_after(tile, pair % 3 + 1);
-    }
-    links
+    let first = next(tile);
+    let second = next(first);
+    [tile, first, tile, second, tile, next(second)]
+}
+
+// Six joined tiles for each tile, and each pair named once: a drawing can have no more.
+pub(crate) fn largest_links(heap: Global) -> Result<Vec<u8>, AllocError> {
+    (0..TILES).flat_map(three_pairs).collect(heap)
 }

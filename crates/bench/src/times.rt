@@ -1,10 +1,11 @@
-use std::fmt;
-use std::time::Duration;
+use std::rt::Clock;
+use std::time::{Duration, Instant};
+use std::{fmt, io};
 
 // How often a call is measured: the least of so many is hardly touched by what else the machine does.
-pub(crate) const RUNS: u32 = 20;
+const RUNS: u32 = 20;
 
-// What RUNS calls of one kind took.
+// What RUNS calls of one kind took. No time is kept, since the least and the mean need only these two.
 #[derive(Clone, Copy)]
 pub(crate) struct Times {
     least: Duration,
@@ -12,31 +13,35 @@ pub(crate) struct Times {
 }
 
 impl Times {
-    // Any first time is less than the least.
-    pub(crate) fn none() -> Times {
-        Times {
-            least: Duration::MAX,
-            total: Duration::ZERO,
+    // Makes the call RUNS times. The clock is read close around it, so that nothing else counts.
+    pub(crate) fn of<F: FnMut() -> io::Result<()>>(
+        clock: &impl Clock,
+        mut call: F,
+    ) -> io::Result<Times>
+        requires { F.IsAlwaysCallable call }
+    {
+        let mut least = Duration::MAX;
+        let mut total = Duration::ZERO;
+        for _ in 0..RUNS {
+            let start = Instant::now(clock)?;
+            let answer = call();
+            let time = start.elapsed(clock)?;
+            answer?;
+            least = least.min(time);
+            total = total.saturating_add(time);
         }
-    }
-
-    // A time is not kept, since the least and the mean need only these two.
-    pub(crate) fn note(&mut self, time: Duration) {
-        self.least = self.least.min(time);
-        self.total = self.total.saturating_add(time);
+        Ok(Times { least, total })
     }
 }
 
 // A time that is shown in milliseconds.
 #[derive(Drop)]
-struct Millis {
-    time: Duration,
-}
+struct Millis(Duration);
 
 impl fmt::Display for Millis {
     // Two decimals, cut from whole microseconds: finer ones would differ from run to run.
     fn fmt<W: fmt::Write>(&self, f: &mut fmt::Formatter<W>) -> fmt::Result {
-        let micros = self.time.as_micros();
+        let micros = self.0.as_micros();
         let whole = micros / 1000;
         let hundredths = micros % 1000 / 10;
         write!(f, "{whole}.{hundredths:02}")
@@ -46,10 +51,8 @@ impl fmt::Display for Millis {
 impl fmt::Display for Times {
     // The least says what the call costs, and the mean how much the machine added.
     fn fmt<W: fmt::Write>(&self, f: &mut fmt::Formatter<W>) -> fmt::Result {
-        let least = Millis { time: self.least };
-        let mean = Millis {
-            time: self.total / RUNS,
-        };
+        let least = Millis(self.least);
+        let mean = Millis(self.total / RUNS);
         write!(f, "least {least} ms, mean {mean} ms of {RUNS}")
     }
 }
