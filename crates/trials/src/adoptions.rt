@@ -1,5 +1,5 @@
 // Drawn floors: what they adopt, what they stay, and what they answer.
-use crate::checks::{check, check_eq};
+use crate::checks::{check, check_eq, check_joined, check_pulls};
 use crate::rings::ring_links;
 use base::Refusal;
 use drawn_floor::{DrawnFloor, survey};
@@ -12,13 +12,18 @@ const KITE: [u8; 10] = [3, 0, 2, 0, 1, 0, 2, 1, 3, 2];
 
 const KITE_PULLS: [Pull; 17] = [0, 1, 1, 1, 1, 0, 1, 2, 1, 1, 0, 1, 1, 2, 1, 0, 7];
 
+// These two tiles are joined to the tile, and no third.
+fn has_two_joined(floor: &DrawnFloor, tile: Tile, first: Tile, second: Tile) -> Result<(), Fail> {
+    check_eq(floor.joined(tile, 0), Some(first))?;
+    check_eq(floor.joined(tile, 1), Some(second))?;
+    check_eq(floor.joined(tile, 2), None)
+}
+
 fn is_ring_of_three(floor: &DrawnFloor) -> Result<(), Fail> {
     check_eq(floor.size(), 3)?;
     check_eq(floor.reach(), 1)?;
     for (tile, first, second) in [(0, 1, 2), (1, 0, 2), (2, 0, 1)] {
-        check_eq(floor.joined(tile, 0), Some(first))?;
-        check_eq(floor.joined(tile, 1), Some(second))?;
-        check_eq(floor.joined(tile, 2), None)?;
+        has_two_joined(floor, tile, first, second)?;
         check_eq(floor.pull(tile, tile), Some(0))?;
         check_eq(floor.pull(tile, first), Some(1))?;
         check_eq(floor.pull(tile, second), Some(1))?;
@@ -31,33 +36,34 @@ fn is_ring_of_three(floor: &DrawnFloor) -> Result<(), Fail> {
 fn is_kite(floor: &DrawnFloor) -> Result<(), Fail> {
     check_eq(floor.size(), 4)?;
     check_eq(floor.reach(), 2)?;
-    for (tile, k, joined) in [
-        (0, 0, Some(1)),
-        (0, 1, Some(2)),
-        (0, 2, Some(3)),
-        (0, 3, None),
-        (0, 6, None),
-        (0, 255, None),
-        (1, 0, Some(0)),
-        (1, 1, Some(2)),
-        (1, 2, None),
-        (3, 0, Some(0)),
-        (3, 1, Some(2)),
-        (4, 0, None),
-    ] {
-        check_eq(floor.joined(tile, k), joined)?;
-    }
-    for (tile, goal, pull) in [
-        (0, 2, Some(1)),
-        (1, 3, Some(2)),
-        (3, 1, Some(2)),
-        (3, 3, Some(0)),
-        (0, 4, None),
-        (4, 0, None),
-    ] {
-        check_eq(floor.pull(tile, goal), pull)?;
-    }
-    Ok(())
+    check_joined(
+        floor,
+        &[
+            (0, 0, Some(1)),
+            (0, 1, Some(2)),
+            (0, 2, Some(3)),
+            (0, 3, None),
+            (0, 6, None),
+            (0, 255, None),
+            (1, 0, Some(0)),
+            (1, 1, Some(2)),
+            (1, 2, None),
+            (3, 0, Some(0)),
+            (3, 1, Some(2)),
+            (4, 0, None),
+        ],
+    )?;
+    check_pulls(
+        floor,
+        &[
+            (0, 2, Some(1)),
+            (1, 3, Some(2)),
+            (3, 1, Some(2)),
+            (3, 3, Some(0)),
+            (0, 4, None),
+            (4, 0, None),
+        ],
+    )
 }
 
 // Adopts the kite, and keeps it when it is handed links that name a fourth of three tiles.
@@ -79,7 +85,7 @@ fn stays_ring<'a>(size: Tile, links: &'a [u8], pulls: &'a [Pull]) -> Result<(), 
 #[test]
 fn adopted() -> Result<(), Fail> {
     let mut numbers = [7; 17];
-    check(survey(4, &KITE, &mut numbers).is_ok())?;
+    survey(4, &KITE, &mut numbers)?;
     becomes_kite(&KITE, &numbers)?;
     becomes_kite(&KITE, &KITE_PULLS)?;
     becomes_kite(&KITE, &KITE_PULLS[0..16])
@@ -115,23 +121,21 @@ fn becomes_longest_ring<'a>(links: &'a [u8], pulls: &'a [Pull]) -> Result<(), Fa
     check_eq(floor.size(), 255)?;
     check_eq(floor.reach(), 127)?;
     for (tile, first, second) in [(0, 1, 254), (1, 0, 2), (100, 99, 101), (254, 0, 253)] {
-        check_eq(floor.joined(tile, 0), Some(first))?;
-        check_eq(floor.joined(tile, 1), Some(second))?;
-        check_eq(floor.joined(tile, 2), None)?;
+        has_two_joined(&floor, tile, first, second)?;
     }
     check_eq(floor.joined(255, 0), None)?;
-    for (tile, goal, pull) in [
-        (0, 254, Some(1)),
-        (0, 127, Some(127)),
-        (0, 128, Some(127)),
-        (10, 200, Some(65)),
-        (254, 254, Some(0)),
-        (0, 255, None),
-        (255, 0, None),
-    ] {
-        check_eq(floor.pull(tile, goal), pull)?;
-    }
-    Ok(())
+    check_pulls(
+        &floor,
+        &[
+            (0, 254, Some(1)),
+            (0, 127, Some(127)),
+            (0, 128, Some(127)),
+            (10, 200, Some(65)),
+            (254, 254, Some(0)),
+            (0, 255, None),
+            (255, 0, None),
+        ],
+    )
 }
 
 #[test]
@@ -139,14 +143,9 @@ fn longest_ring(rt: HostRuntime) -> Result<(), Fail> {
     let heap = rt.alloc();
     let links = ring_links(heap, 255)?;
     let mut few = vec![in heap; 7; 65024]?;
-    check_eq(
-        survey(255, links.as_slice(), few.as_mut_slice()).err(),
-        Some(Refusal::ShortList),
-    )?;
-    for number in few.as_slice() {
-        check_eq(*number, 7)?;
-    }
+    check_eq(survey(255, &links, &mut few), Err(Refusal::ShortList))?;
+    check(few.iter().all(|number| *number == 7))?;
     let mut numbers = vec![in heap; 7; 65025]?;
-    check(survey(255, links.as_slice(), numbers.as_mut_slice()).is_ok())?;
-    becomes_longest_ring(links.as_slice(), numbers.as_slice())
+    survey(255, &links, &mut numbers)?;
+    becomes_longest_ring(&links, &numbers)
 }

@@ -1,5 +1,5 @@
 // Open floors: bounds, reach, joined tiles and pulls.
-use crate::checks::{check, check_eq};
+use crate::checks::{check, check_eq, check_joined, check_pulls};
 use base::Refusal;
 use floor::Floor;
 use open_floor::OpenFloor;
@@ -11,7 +11,7 @@ fn bounds() -> Result<(), Fail> {
         check(OpenFloor::new(width, height).is_ok())?;
     }
     for (width, height) in [(16, 16), (1, 5), (5, 1), (0, 0), (128, 2), (255, 255)] {
-        check_eq(OpenFloor::new(width, height).err(), Some(Refusal::Size))?;
+        check_eq(OpenFloor::new(width, height), Err(Refusal::Size))?;
     }
     Ok(())
 }
@@ -21,33 +21,32 @@ fn bounds() -> Result<(), Fail> {
 //   3 4 5
 #[test]
 fn three_by_two() -> Result<(), Fail> {
-    let Ok(floor) = OpenFloor::new(3, 2) else {
-        return Err(Fail::new("refused"));
-    };
+    let floor = OpenFloor::new(3, 2)?;
     check_eq(floor.size(), 6)?;
     check_eq(floor.reach(), 3)?;
-    for (tile, k, joined) in [
-        (0, 0, Some(1)),
-        (0, 1, Some(3)),
-        (0, 2, None),
-        (4, 0, Some(1)),
-        (4, 1, Some(3)),
-        (4, 2, Some(5)),
-        (4, 3, None),
-        (6, 0, None),
-    ] {
-        check_eq(floor.joined(tile, k), joined)?;
-    }
-    for (tile, goal, pull) in [
-        (0, 5, Some(3)),
-        (5, 0, Some(3)),
-        (2, 3, Some(3)),
-        (4, 4, Some(0)),
-        (4, 1, Some(1)),
-        (0, 6, None),
-        (6, 0, None),
-    ] {
-        check_eq(floor.pull(tile, goal), pull)?;
-    }
-    Ok(())
+    check_joined(
+        &floor,
+        &[
+            (0, 0, Some(1)),
+            (0, 1, Some(3)),
+            (0, 2, None),
+            (4, 0, Some(1)),
+            (4, 1, Some(3)),
+            (4, 2, Some(5)),
+            (4, 3, None),
+            (6, 0, None),
+        ],
+    )?;
+    check_pulls(
+        &floor,
+        &[
+            (0, 5, Some(3)),
+            (5, 0, Some(3)),
+            (2, 3, Some(3)),
+            (4, 4, Some(0)),
+            (4, 1, Some(1)),
+            (0, 6, None),
+            (6, 0, None),
+        ],
+    )
 }

@@ -13,9 +13,15 @@ fn prints(heap: Global, sheet: &[u8], text: &str) -> Result<(), Fail> {
 
 // The bytes of a 3 by 2 floor, then `more`.
 fn after_floor(heap: Global, more: &[u8]) -> Result<Vec<u8>, AllocError> {
-    let mut sheet = Vec::from_slice(heap, &OPEN)?;
-    sheet.extend_from_slice(more)?;
-    Ok(sheet)
+    [OPEN.as_slice(), more].concat(heap)
+}
+
+// Each row has what stands after the floor, and what the sheet prints.
+fn all_print(heap: Global, rows: &[(&[u8], &str)]) -> Result<(), Fail> {
+    for (more, text) in rows {
+        prints(heap, after_floor(heap, more)?.as_slice(), text)?;
+    }
+    Ok(())
 }
 
 #[test]
@@ -39,59 +45,55 @@ fn first_fields(rt: HostRuntime) -> Result<(), Fail> {
 
 #[test]
 fn second_fields(rt: HostRuntime) -> Result<(), Fail> {
-    let heap = rt.alloc();
-    let rows: [(&[u8], &str); 10] = [
-        (&[], "floor 6 3\nstop sheet 20 5\n"),
-        (&[3, 0], "floor 6 3\nstop sheet 17 5\n"),
-        (&[3, 0, 1], "floor 6 3\nstop sheet 17 5\n"),
-        (&[77, 0, 0], "floor 6 3\nstop sheet 18 5\n"),
-        (&[3, 0, 2, 1, 1], "floor 6 3\nstop sheet 19 5\n"),
-        (&[1, 0, 2, 3, 2], "floor 6 3\nstop sheet 20 5\n"),
-        (&[4, 0, 2, 0, 0], "floor 6 3\nstop sheet 20 5\n"),
-        (&[3, 0, 1, 3], "floor 6 3\nstop sheet 21 5\n"),
-        (&[3, 0, 1, 2], "floor 6 3\nok\n"),
-        (
-            &[3, 0, 1, 0, 3, 0, 1, 0],
-            "floor 6 3\nok\nstop sheet 20 9\n",
-        ),
-    ];
-    for (more, text) in rows {
-        prints(heap, after_floor(heap, more)?.as_slice(), text)?;
-    }
-    Ok(())
+    all_print(
+        rt.alloc(),
+        &[
+            (&[], "floor 6 3\nstop sheet 20 5\n"),
+            (&[3, 0], "floor 6 3\nstop sheet 17 5\n"),
+            (&[3, 0, 1], "floor 6 3\nstop sheet 17 5\n"),
+            (&[77, 0, 0], "floor 6 3\nstop sheet 18 5\n"),
+            (&[3, 0, 2, 1, 1], "floor 6 3\nstop sheet 19 5\n"),
+            (&[1, 0, 2, 3, 2], "floor 6 3\nstop sheet 20 5\n"),
+            (&[4, 0, 2, 0, 0], "floor 6 3\nstop sheet 20 5\n"),
+            (&[3, 0, 1, 3], "floor 6 3\nstop sheet 21 5\n"),
+            (&[3, 0, 1, 2], "floor 6 3\nok\n"),
+            (
+                &[3, 0, 1, 0, 3, 0, 1, 0],
+                "floor 6 3\nok\nstop sheet 20 9\n",
+            ),
+        ],
+    )
 }
 
 #[test]
 fn later_fields(rt: HostRuntime) -> Result<(), Fail> {
-    let heap = rt.alloc();
-    let rows: [(&[u8], &str); 7] = [
-        (
-            &[3, 0, 1, 1, 4, 0, 2, 0, 0, 6, 0, 1, 0, 7, 0, 0],
-            "floor 6 3\nok\n",
-        ),
-        (
-            &[3, 0, 1, 1, 7, 0, 1, 0],
-            "floor 6 3\nok\nstop sheet 19 9\n",
-        ),
-        (
-            &[3, 0, 1, 1, 7, 0, 0, 6, 0, 2, 0, 0],
-            "floor 6 3\nok\nstop sheet 19 12\n",
-        ),
-        (
-            &[3, 0, 1, 1, 7, 0, 0, 2, 0, 1, 3],
-            "floor 6 3\nok\nstop sheet 20 12\n",
-        ),
-        (
-            &[3, 0, 1, 1, 5, 1, 2, 0, 0],
-            "floor 6 3\nok\nstop sheet 17 9\n",
-        ),
-        (&[3, 0, 1, 1, 8, 0, 0], "floor 6 3\nok\nstop sheet 18 9\n"),
-        (&[3, 0, 1, 1, 7, 0], "floor 6 3\nok\nstop sheet 17 9\n"),
-    ];
-    for (more, text) in rows {
-        prints(heap, after_floor(heap, more)?.as_slice(), text)?;
-    }
-    Ok(())
+    all_print(
+        rt.alloc(),
+        &[
+            (
+                &[3, 0, 1, 1, 4, 0, 2, 0, 0, 6, 0, 1, 0, 7, 0, 0],
+                "floor 6 3\nok\n",
+            ),
+            (
+                &[3, 0, 1, 1, 7, 0, 1, 0],
+                "floor 6 3\nok\nstop sheet 19 9\n",
+            ),
+            (
+                &[3, 0, 1, 1, 7, 0, 0, 6, 0, 2, 0, 0],
+                "floor 6 3\nok\nstop sheet 19 12\n",
+            ),
+            (
+                &[3, 0, 1, 1, 7, 0, 0, 2, 0, 1, 3],
+                "floor 6 3\nok\nstop sheet 20 12\n",
+            ),
+            (
+                &[3, 0, 1, 1, 5, 1, 2, 0, 0],
+                "floor 6 3\nok\nstop sheet 17 9\n",
+            ),
+            (&[3, 0, 1, 1, 8, 0, 0], "floor 6 3\nok\nstop sheet 18 9\n"),
+            (&[3, 0, 1, 1, 7, 0], "floor 6 3\nok\nstop sheet 17 9\n"),
+        ],
+    )
 }
 
 // A floor, a preference and beats up to 60,000 bytes, and then one byte more.
