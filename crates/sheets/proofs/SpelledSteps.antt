@@ -1,7 +1,7 @@
 -- What was read is what stands in the sheet.
 use Rattle.std.proofs.Common.{◌≡◌, ℕ, zero, suc, ◌+◌, ◌-◌, ◌*◌, ◌/◌, ◌%◌, ◌<◌, ◌≤◌, Bool, true, false, eqb, leb, List, [], ◌∷◌, ◌++◌, length, get_or, take, drop, Some, None, Ok, Err, Option, Result, sym, refl, ap, ◌∙◌, inl, inr, append_assoc, arith, length-append, take-append-drop, length-take}
 use Rattle.std.proofs.lemmas.Nat.{div-mul-add, mod-mul-add}
-use Rattle.std.proofs.lemmas.List.{take_at}
+use Rattle.std.proofs.lemmas.List.{take_at, nil_from_length}
 use Rattle.std.proofs.lemmas.Bool.{eqb-true, leb-true, lt-leb, cases_lt}
 use Rattle.base.specs.declared.refusal.Refusal.{Refusal}
 use Rattle.base.specs.declared.refusal.Refusal.TheVariants.{Cut, Long}
@@ -47,10 +47,6 @@ one_byte [] e = absurd (omega arith)
 one_byte (a ∷ []) e = refl
 one_byte (a ∷ (b ∷ cs)) e = absurd (omega arith)
 
-no_byte : (bs : List ℕ) → length bs ≡ 0 → bs ≡ []
-no_byte [] e = refl
-no_byte (a ∷ bs) e = absurd (omega arith)
-
 some_bytes : (bs : List ℕ) → 1 ≤ length bs → bs ≡ get_or bs 0 0 ∷ drop 1 bs
 some_bytes [] e = absurd (omega arith)
 some_bytes (a ∷ bs) e = refl
@@ -71,7 +67,7 @@ contents_said tag.Preference bs x s e = prefers bs x (preference_of (get_or bs 0
 contents_said tag.Place bs x s e = it_says tag.Place bs _ x e refl (two_bytes bs (eqb-true (length bs) 2 s))
 contents_said tag.Assign bs x s e = it_says tag.Assign bs _ x e refl (two_bytes bs (eqb-true (length bs) 2 s))
 contents_said tag.Lift bs x s e = it_says tag.Lift bs _ x e refl (one_byte bs (eqb-true (length bs) 1 s))
-contents_said tag.Beat bs x s e = it_says tag.Beat bs _ x e refl (no_byte bs (eqb-true (length bs) 0 s))
+contents_said tag.Beat bs x s e = it_says tag.Beat bs _ x e refl (nil_from_length bs (eqb-true (length bs) 0 s))
 
 admitted : (a : Awaited) (t : Tag) (bs : List ℕ) (x : Said) (b : Bool) → length_suits t (length bs) ≡ true
     → elim b as (λ _. Result Said Refusal) [ false ↦ Err refusal.Opening | true ↦ contents_say t bs ] ≡ Ok x → Says t bs x

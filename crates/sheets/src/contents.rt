@@ -59,14 +59,12 @@ pub(crate) fn first_field<'a>(
 ) -> Result<(Field<&'a [u8]>, &'a [u8]), Refusal>
     ensures { plain_field result ≡ first_field awaited bytes.now }
 {
-    let [tag, high, low, rest @ ..] = bytes else {
+    let [number, high, low, rest @ ..] = bytes else {
         return Err(Refusal::Cut);
     };
-    let length = usize::from(*high) * 256 + usize::from(*low);
-    if length > rest.len() {
+    let length = usize::from(u16::from_be_bytes([*high, *low]));
+    let Some((contents, after)) = rest.split_at_checked(length) else {
         return Err(Refusal::Cut);
-    }
-    let (contents, after) = rest.split_at(length);
-    let field = checked(awaited, *tag, contents)?;
-    Ok((field, after))
+    };
+    Ok((checked(awaited, *number, contents)?, after))
 }
