@@ -134,7 +134,3 @@ was_read r later o x some e after = elim r as (λ r. Ok (Some (plain_entry x)) �
   | then_reads y rest ↦ λ e l. let h : y ≡ plain_entry x = cc in ap (λ z. then_reads z rest) h ∙ ap (then_reads (plain_entry x)) (sym l)
 ]
     (sym (ap (λ o. plain_answer (Ok o)) some) ∙ e) after
-
--- a field more was read
-pub fewer_left : {r later : Reading} {x : Entry (List ℕ)} → r ≡ then_reads x later → entries later < entries r
-fewer_left e = omega (arith, ap entries e)

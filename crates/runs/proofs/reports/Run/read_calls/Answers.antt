@@ -1,6 +1,6 @@
 use Rattle.std.proofs.Common.{sym, ap, ◌∙◌, string_bytes}
 use Rattle.sheets.specs.Readers.{left_in}
-use Rattle.sheets.proofs.ReadingSteps.{was_faulty, was_ended, was_read, fewer_left}
+use Rattle.sheets.proofs.ReadingSteps.{was_faulty, was_ended, was_read}
 use Rattle.runs.specs.Printed.{call_lines}
 use Rattle.runs.proofs.LineSteps.{adds_stop, adds_nothing}
 use Rattle.runs.proofs.reports.Run.read_calls.Goals as goal
@@ -20,11 +20,6 @@ loop-entry-preserved c =
     let told = c.in_ok-_entry.ensures in
     let e = was_read (left_in c.loop-entry.self.reader) (left_in c.next_field.new.self) c.in_ok-_entry.field-0 c.in-Some._entry c.in-Some.is told.answer told.after in
     record { unwritten = c.loop-entry.invariant.unwritten; same = sym (ap call_lines e) ∙ c.loop-entry.invariant.same }
-
-pub loop-entry-smaller : goal.loop-entry-smaller
-loop-entry-smaller c =
-    let told = c.in_ok-_entry.ensures in
-    fewer_left (was_read (left_in c.loop-entry.self.reader) (left_in c.next_field.new.self) c.in_ok-_entry.field-0 c.in-Some._entry c.in-Some.is told.answer told.after)
 
 pub returns : goal.returns
 unfolding call_lines
