@@ -1,5 +1,7 @@
 -- What was read is what stands in the sheet.
-use Rattle.std.proofs.Common.{◌≡◌, ℕ, zero, suc, ◌+◌, ◌-◌, ◌*◌, ◌/◌, ◌%◌, ◌<◌, ◌≤◌, Bool, true, false, eqb, leb, List, [], ◌∷◌, ◌++◌, length, get_or, take, drop, Some, None, Ok, Err, Option, Result, sym, refl, ap, ◌∙◌, inl, inr, append_assoc, arith, length-append, take-append-drop, length-take}
+use Rattle.std.proofs.Common.{◌≡◌, ℕ, zero, suc, ◌+◌, ◌-◌, ◌*◌, ◌/◌, ◌%◌, ◌<◌, ◌≤◌, Bool, true, false, leb, List, [], ◌∷◌, ◌++◌, length, get_or, take, drop, Some, None, Ok, Err, Option, Result, sym, refl, ap, ◌∙◌, inl, inr, append_assoc, arith, length-append, take-append-drop, length-take}
+use Rattle.std.specs.Prelude.{◌==◌, cond}
+use Rattle.std.specs.List.{find}
 use Rattle.std.proofs.lemmas.Nat.{div-mul-add, mod-mul-add}
 use Rattle.std.proofs.lemmas.List.{take_at, nil_from_length}
 use Rattle.std.proofs.lemmas.Bool.{eqb-true, leb-true, lt-leb, cases_lt}
@@ -16,7 +18,7 @@ use Rattle.sheets.specs.declared.tag.Tag.{Tag}
 use Rattle.sheets.specs.declared.tag.Tag.TheVariants as tag
 use Rattle.sheets.specs.Faults.{fault_at}
 use Rattle.sheets.specs.Fields.{Said, contents_say, tagged_says, field_says, followed_by, first_field}
-use Rattle.sheets.specs.Numbers.{with_number, tag_number, every_tag, tag_of, preference_number, every_preference, preference_of}
+use Rattle.sheets.specs.Numbers.{tag_number, every_tag, tag_of, preference_number, every_preference, preference_of}
 use Rattle.sheets.specs.Opening.{may_stand, awaited_after}
 use Rattle.sheets.specs.Suits.{length_suits}
 use Rattle.sheets.specs.Readings.{Reading, reading_at_end, continued, reading}
@@ -25,10 +27,10 @@ use Rattle.sheets.proofs.ReadingSteps.{shrinks, says_short, says_long}
 
 module _ {X : Type 0} (number : X → ℕ) where
   -- what has a number has that number
-  numbered : (xs : List X) (n : ℕ) (x : X) → with_number number xs n ≡ Some x → n ≡ number x
+  numbered : (xs : List X) (n : ℕ) (x : X) → find (λ y. n == number y) xs ≡ Some x → n ≡ number x
   numbered [] n x e = absurd cc
   numbered (y ∷ ys) n x e =
-      elim (eqb n (number y)) as (λ b. eqb n (number y) ≡ b → elim b as (λ _. Option X) [ true ↦ Some y | false ↦ with_number number ys n ] ≡ Some x → n ≡ number x)
+      elim (n == number y) as (λ b. (n == number y) ≡ b → cond b (Some y) (find (λ y. n == number y) ys) ≡ Some x → n ≡ number x)
       [ true ↦ λ t e. (let same : y ≡ x = cc in eqb-true n (number y) t ∙ ap number same) | false ↦ λ _ e. numbered ys n x e ] refl e
 
 -- contents that say x are those of x
