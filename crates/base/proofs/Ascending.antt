@@ -1,7 +1,7 @@
 -- A list that ascends and has just the numbers that pass a test is the list of those numbers.
 use Rattle.std.proofs.Common.{◌≡◌, ℕ, zero, suc, ◌+◌, ◌<◌, ◌≤◌, Bool, true, false, List, [], ◌∷◌, sym, refl, ap, ◌∙◌, ⊎_elim, arith}
 use Rattle.std.specs.List.{range_with_len}
-use Rattle.std.proofs.lemmas.Bool.{cases_lt}
+use Rattle.std.proofs.lemmas.Bool.{cases_lt, false_from_ne_true}
 use Rattle.base.specs.Lists.{below, those, Among}
 
 -- each is larger than the one before, and the first at least a
@@ -23,8 +23,7 @@ among_above a y (x ∷ xs) h i =
     ⊎_elim (λ (e : y ≡ x). omega (arith, h.0)) (λ j. omega (arith, h.0, among_above (x + 1) y xs h.1 j)) i
 
 pub false_by : (b : Bool) → (b ≡ true → ⊥) → b ≡ false
-false_by true never = absurd (never refl)
-false_by false never = refl
+false_by b never = false_from_ne_true b never
 
 pub those_take : (p : ℕ → Bool) (x : ℕ) (xs : List ℕ) → p x ≡ true → those p (x ∷ xs) ≡ x ∷ those p xs
 unfolding those

@@ -27,11 +27,19 @@ pub enum Refusal {
     Value = 21,
 }
 
+impl From<Refusal> for u8 {
+    ghost from_gives = { λ refusal number. number ≡ refusal_number refusal };
+
+    fn from(refusal: Refusal) -> u8 {
+        refusal as u8
+    }
+}
+
 impl Refusal {
     // The number by which sheets, programs and people know the refusal.
     pub fn number(self) -> u8
         ensures { result ≡ refusal_number self }
     {
-        self as u8
+        u8::from(self)
     }
 }

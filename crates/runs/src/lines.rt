@@ -1,26 +1,26 @@
-ghost use Rattle.std.specs.Prelude.{◌≡◌, ◌++◌, string_bytes, OnOk};
-ghost use Rattle.runs.specs.Lines.{floor_line, ok_line, stop_line};
+ghost use Rattle.std.specs.Prelude.{Some};
+ghost use Rattle.runs.specs.Lines.{line_text};
 
-use floor::Floor;
+use floor::{Pull, Tile};
 use sheets::Fault;
-use std::alloc::AllocError;
+use std::fmt;
 
-pub(crate) fn write_floor_line<F: Floor>(out: &mut String, floor: &F) -> Result<(), AllocError>
-    ensures { OnOk result (string_bytes out.new ≡ string_bytes out.old ++ floor_line (F.tiles floor.now) (F.farthest floor.now)) }
-{
-    let size = floor.size();
-    let reach = floor.reach();
-    writeln!(out, "floor {size} {reach}")
+// A line that a run prints: the floor that is laid, a field that is carried out, or why the run ends early.
+#[derive(Clone, Copy, PartialEq, Eq, Debug)]
+pub(crate) enum Line {
+    Floor { size: Tile, reach: Pull },
+    Ok,
+    Stop(Fault),
 }
 
-pub(crate) fn write_ok_line(out: &mut String) -> Result<(), AllocError>
-    ensures { OnOk result (string_bytes out.new ≡ string_bytes out.old ++ ok_line) }
-{
-    writeln!(out, "ok")
-}
+impl fmt::Display for Line {
+    ghost output = { λ line. Some (line_text line) };
 
-pub(crate) fn write_stop_line(out: &mut String, fault: Fault) -> Result<(), AllocError>
-    ensures { OnOk result (string_bytes out.new ≡ string_bytes out.old ++ stop_line fault) }
-{
-    writeln!(out, "stop {fault}")
+    fn fmt<W: fmt::Write>(&self, f: &mut fmt::Formatter<W>) -> fmt::Result {
+        match self {
+            Line::Floor { size, reach } => write!(f, "floor {size} {reach}"),
+            Line::Ok => write!(f, "ok"),
+            Line::Stop(fault) => write!(f, "stop {fault}"),
+        }
+    }
 }

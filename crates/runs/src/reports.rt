@@ -1,11 +1,10 @@
-ghost use Rattle.std.specs.Prelude.{◌≡◌, [], ◌++◌, IfOk, string_bytes, MatchResult};
+ghost use Rattle.std.specs.Prelude.{◌≡◌, ◌++◌, IfOk, OnOk, string_bytes};
 ghost use Rattle.sheets.specs.Fields.{said};
 ghost use Rattle.sheets.specs.Readers.{left_in};
-ghost use Rattle.runs.specs.Lines.{floor_line, stop_line};
-ghost use Rattle.runs.specs.Printed.{printed, call_lines, floor_lines, preference_lines};
-ghost use Rattle.runs.specs.Written.{Wrote};
+ghost use Rattle.runs.specs.Lines.{floor_line, whole_line};
+ghost use Rattle.runs.specs.Printed.{printed, call_lines, floor_lines, preference_lines, run_lines};
 
-use crate::lines::{write_floor_line, write_ok_line, write_stop_line};
+use crate::lines::Line;
 use crate::stop::Stop;
 use floor::Floor;
 use open_floor::OpenFloor;
@@ -17,65 +16,97 @@ pub fn report(heap: Global, sheet: &[u8]) -> Result<String, AllocError>
     ensures { IfOk result (λ text. string_bytes text ≡ printed sheet.now) }
 {
     let mut out = String::new(heap);
-    match carry_out(sheet, &mut out) {
-        Ok(()) => Ok(out),
-        Err(Stop::Faulty(fault)) => match write_stop_line(&mut out, fault) {
-            Ok(()) => Ok(out),
-            Err(_) => Err(AllocError),
-        },
-        Err(Stop::NoMemory) => Err(AllocError),
-    }
-}
-
-// Carries out a sheet, up to its end or its first fault.
-fn carry_out(sheet: &[u8], out: &mut String) -> Result<(), Stop>
-    ensures { Wrote (string_bytes out.old) (string_bytes out.new) (printed sheet.now) result }
-{
-    let mut reader = Reader::new(sheet)?;
-    match reader.next_field()? {
-        Some(first) => lay(first, &mut reader, out),
-        None => Ok(()),
-    }
-}
-
-// Lays the floor that the first field asks for, and carries out the fields after it.
-fn lay(first: Entry<&[u8]>, reader: &mut Reader, out: &mut String) -> Result<(), Stop>
-    ensures { Wrote (string_bytes out.old) (string_bytes out.new) (floor_lines first.entry.place (said first.entry.field) (left_in reader.old)) result }
-{
-    match first.field {
-        Field::Open { width, height } => {
-            let floor = Fault::located(Layer::Floor, first.place, OpenFloor::new(width, height))?;
-            carry_out_on(&floor, reader, out)
+    match Reader::new(sheet) {
+        Ok(reader) => Run { reader, out }.text(),
+        Err(fault) => {
+            writeln!(out, "{}", Line::Stop(fault))?;
+            Ok(out)
         }
-        Field::Drawn { size: _, links: _ } => prefer(reader, out),
-        _ => Ok(()),
     }
 }
 
-// Carries out the fields after a floor that is laid.
-fn carry_out_on<F: Floor>(floor: &F, reader: &mut Reader, out: &mut String) -> Result<(), Stop>
-    ensures { Wrote (string_bytes out.old) (string_bytes out.new) (floor_line (F.tiles floor.now) (F.farthest floor.now) ++ preference_lines (left_in reader.old)) result }
-{
-    write_floor_line(out, floor)?;
-    prefer(reader, out)
+// A sheet that is carried out: what is left to read of it, and what was written for it so far.
+#[derive(Drop)]
+struct Run<'a> {
+    reader: Reader<'a>,
+    out: String,
 }
 
-// Takes the preference, and carries out the fields after it.
-fn prefer(reader: &mut Reader, out: &mut String) -> Result<(), Stop>
-    ensures { Wrote (string_bytes out.old) (string_bytes out.new) (preference_lines (left_in reader.old)) result }
-{
-    let Some(_entry) = reader.next_field()? else {
-        return Ok(());
-    };
-    write_ok_line(out)?;
-    read_calls(reader)?;
-    Ok(())
-}
+impl Run<'_> {
+    ghost use Rattle.runs.specs.Written.{Wrote};
 
-// Reads the fields for the table.
-fn read_calls(reader: &mut Reader) -> Result<(), Fault>
-    ensures { MatchResult result (λ _. call_lines (left_in reader.old) ≡ []) (λ fault. call_lines (left_in reader.old) ≡ stop_line fault) }
-{
-    while let Some(_entry) = reader.next_field()? {}
-    Ok(())
+    // The text of a whole run, whose last line names the fault that ends it early.
+    fn text(mut self) -> Result<String, AllocError>
+        ensures { IfOk result (λ text. string_bytes text ≡ string_bytes self.entry.out ++ run_lines (left_in self.entry.reader)) }
+    {
+        match self.carry_out() {
+            Ok(()) => {}
+            Err(Stop::Faulty(fault)) => self.write(Line::Stop(fault))?,
+            Err(Stop::NoMemory(error)) => return Err(error),
+        }
+        Ok(self.out)
+    }
+
+    // Writes a line.
+    fn write(&mut self, line: Line) -> Result<(), AllocError>
+        ensures written { OnOk result (string_bytes self.new.out ≡ string_bytes self.old.out ++ whole_line line) }
+        ensures unread { self.new.reader ≡ self.old.reader }
+    {
+        writeln!(self.out, "{line}")
+    }
+
+    // Carries out a sheet, up to its end or its first fault.
+    fn carry_out(&mut self) -> Result<(), Stop>
+        ensures { Wrote self.old self.new (run_lines (left_in self.old.reader)) result }
+    {
+        match self.reader.next_field()? {
+            Some(first) => self.lay(first),
+            None => Ok(()),
+        }
+    }
+
+    // Lays the floor that the first field asks for, and carries out the fields after it.
+    fn lay(&mut self, first: Entry<&[u8]>) -> Result<(), Stop>
+        ensures { Wrote self.old self.new (floor_lines first.entry.place (said first.entry.field) (left_in self.old.reader)) result }
+    {
+        match first.field {
+            Field::Open { width, height } => {
+                let answer = OpenFloor::new(width, height);
+                let floor = Fault::located(Layer::Floor, first.place, answer)?;
+                self.carry_out_on(&floor)
+            }
+            Field::Drawn { .. } => self.prefer(),
+            _ => Ok(()),
+        }
+    }
+
+    // Carries out the fields after a floor that is laid.
+    fn carry_out_on<F: Floor>(&mut self, floor: &F) -> Result<(), Stop>
+        ensures { Wrote self.old self.new (floor_line (F.tiles floor.now) (F.farthest floor.now) ++ preference_lines (left_in self.old.reader)) result }
+    {
+        self.write(Line::Floor {
+            size: floor.size(),
+            reach: floor.reach(),
+        })?;
+        self.prefer()
+    }
+
+    // Takes the preference, and carries out the fields after it.
+    fn prefer(&mut self) -> Result<(), Stop>
+        ensures { Wrote self.old self.new (preference_lines (left_in self.old.reader)) result }
+    {
+        let Some(_entry) = self.reader.next_field()? else {
+            return Ok(());
+        };
+        self.write(Line::Ok)?;
+        self.read_calls()
+    }
+
+    // Reads the fields for the table.
+    fn read_calls(&mut self) -> Result<(), Stop>
+        ensures { Wrote self.old self.new (call_lines (left_in self.old.reader)) result }
+    {
+        while let Some(_entry) = self.reader.next_field()? {}
+        Ok(())
+    }
 }

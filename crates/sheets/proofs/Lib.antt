@@ -1,4 +1,3 @@
 pub mod FaultSteps
-pub mod FieldSteps
 pub mod ReadingSteps
 pub mod SpelledSteps

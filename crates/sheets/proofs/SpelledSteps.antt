@@ -1,7 +1,9 @@
 -- What was read is what stands in the sheet.
-use Rattle.std.proofs.Common.{◌≡◌, ℕ, zero, suc, ◌+◌, ◌-◌, ◌*◌, ◌/◌, ◌%◌, ◌<◌, ◌≤◌, Bool, true, false, eqb, leb, List, [], ◌∷◌, ◌++◌, length, get_or, take, drop, Some, None, Ok, Err, Option, Result, sym, refl, ap, ◌∙◌, inl, inr, append_assoc, arith, length-append, take-append-drop, length-take}
+use Rattle.std.proofs.Common.{◌≡◌, ℕ, zero, suc, ◌+◌, ◌-◌, ◌*◌, ◌/◌, ◌%◌, ◌<◌, ◌≤◌, Bool, true, false, leb, List, [], ◌∷◌, ◌++◌, length, get_or, take, drop, Some, None, Ok, Err, Option, Result, sym, refl, ap, ◌∙◌, inl, inr, append_assoc, arith, length-append, take-append-drop, length-take}
+use Rattle.std.specs.Prelude.{◌==◌, cond}
+use Rattle.std.specs.List.{find}
 use Rattle.std.proofs.lemmas.Nat.{div-mul-add, mod-mul-add}
-use Rattle.std.proofs.lemmas.List.{take_at}
+use Rattle.std.proofs.lemmas.List.{take_at, nil_from_length}
 use Rattle.std.proofs.lemmas.Bool.{eqb-true, leb-true, lt-leb, cases_lt}
 use Rattle.base.specs.declared.refusal.Refusal.{Refusal}
 use Rattle.base.specs.declared.refusal.Refusal.TheVariants.{Cut, Long}
@@ -16,7 +18,7 @@ use Rattle.sheets.specs.declared.tag.Tag.{Tag}
 use Rattle.sheets.specs.declared.tag.Tag.TheVariants as tag
 use Rattle.sheets.specs.Faults.{fault_at}
 use Rattle.sheets.specs.Fields.{Said, contents_say, tagged_says, field_says, followed_by, first_field}
-use Rattle.sheets.specs.Numbers.{with_number, tag_number, every_tag, tag_of, preference_number, every_preference, preference_of}
+use Rattle.sheets.specs.Numbers.{tag_number, every_tag, tag_of, preference_number, every_preference, preference_of}
 use Rattle.sheets.specs.Opening.{may_stand, awaited_after}
 use Rattle.sheets.specs.Suits.{length_suits}
 use Rattle.sheets.specs.Readings.{Reading, reading_at_end, continued, reading}
@@ -25,10 +27,10 @@ use Rattle.sheets.proofs.ReadingSteps.{shrinks, says_short, says_long}
 
 module _ {X : Type 0} (number : X → ℕ) where
   -- what has a number has that number
-  numbered : (xs : List X) (n : ℕ) (x : X) → with_number number xs n ≡ Some x → n ≡ number x
-  numbered [] n x e = absurd (let z : ◌≡◌ {A = ℕ} 0 1 = cc in omega arith)
+  numbered : (xs : List X) (n : ℕ) (x : X) → find (λ y. n == number y) xs ≡ Some x → n ≡ number x
+  numbered [] n x e = absurd cc
   numbered (y ∷ ys) n x e =
-      elim (eqb n (number y)) as (λ b. eqb n (number y) ≡ b → elim b as (λ _. Option X) [ true ↦ Some y | false ↦ with_number number ys n ] ≡ Some x → n ≡ number x)
+      elim (n == number y) as (λ b. (n == number y) ≡ b → cond b (Some y) (find (λ y. n == number y) ys) ≡ Some x → n ≡ number x)
       [ true ↦ λ t e. (let same : y ≡ x = cc in eqb-true n (number y) t ∙ ap number same) | false ↦ λ _ e. numbered ys n x e ] refl e
 
 -- contents that say x are those of x
@@ -47,10 +49,6 @@ one_byte [] e = absurd (omega arith)
 one_byte (a ∷ []) e = refl
 one_byte (a ∷ (b ∷ cs)) e = absurd (omega arith)
 
-no_byte : (bs : List ℕ) → length bs ≡ 0 → bs ≡ []
-no_byte [] e = refl
-no_byte (a ∷ bs) e = absurd (omega arith)
-
 some_bytes : (bs : List ℕ) → 1 ≤ length bs → bs ≡ get_or bs 0 0 ∷ drop 1 bs
 some_bytes [] e = absurd (omega arith)
 some_bytes (a ∷ bs) e = refl
@@ -60,7 +58,7 @@ it_says t bs y x e k w = let same : y ≡ x = cc in record { kind = k ∙ ap kin
 
 prefers : (bs : List ℕ) (x : Said) (o : Option PreferenceKind) → preference_of (get_or bs 0 0) ≡ o → length bs ≡ 1
     → elim o as (λ _. Result Said Refusal) [ None ↦ Err refusal.Value | Some p ↦ Ok (Prefer p) ] ≡ Ok x → Says tag.Preference bs x
-prefers bs x None q long e = absurd (let z : ◌≡◌ {A = ℕ} 0 1 = cc in omega arith)
+prefers bs x None q long e = absurd cc
 prefers bs x (Some p) q long e =
     it_says tag.Preference bs (Prefer p) x e refl (one_byte bs long ∙ ap (λ n. n ∷ []) (numbered preference_number every_preference (get_or bs 0 0) p q))
 
@@ -71,25 +69,22 @@ contents_said tag.Preference bs x s e = prefers bs x (preference_of (get_or bs 0
 contents_said tag.Place bs x s e = it_says tag.Place bs _ x e refl (two_bytes bs (eqb-true (length bs) 2 s))
 contents_said tag.Assign bs x s e = it_says tag.Assign bs _ x e refl (two_bytes bs (eqb-true (length bs) 2 s))
 contents_said tag.Lift bs x s e = it_says tag.Lift bs _ x e refl (one_byte bs (eqb-true (length bs) 1 s))
-contents_said tag.Beat bs x s e = it_says tag.Beat bs _ x e refl (no_byte bs (eqb-true (length bs) 0 s))
-
-never_ok : {X Y : Type 0} {x : X} {r : Y} → ◌≡◌ {A = Result X Y} (Err r) (Ok x) → ⊥
-never_ok e = let z : ◌≡◌ {A = ℕ} 0 1 = cc in omega arith
+contents_said tag.Beat bs x s e = it_says tag.Beat bs _ x e refl (nil_from_length bs (eqb-true (length bs) 0 s))
 
 admitted : (a : Awaited) (t : Tag) (bs : List ℕ) (x : Said) (b : Bool) → length_suits t (length bs) ≡ true
     → elim b as (λ _. Result Said Refusal) [ false ↦ Err refusal.Opening | true ↦ contents_say t bs ] ≡ Ok x → Says t bs x
 admitted a t bs x true s e = contents_said t bs x s e
-admitted a t bs x false s e = absurd (never_ok e)
+admitted a t bs x false s e = absurd cc
 
 suited : (a : Awaited) (t : Tag) (bs : List ℕ) (x : Said) (b : Bool) → length_suits t (length bs) ≡ b
     → elim b as (λ _. Result Said Refusal) [ false ↦ Err refusal.Length | true ↦ elim (may_stand a t) as (λ _. Result Said Refusal) [ false ↦ Err refusal.Opening | true ↦ contents_say t bs ] ] ≡ Ok x
     → Says t bs x
 suited a t bs x true s e = admitted a t bs x (may_stand a t) s e
-suited a t bs x false s e = absurd (never_ok e)
+suited a t bs x false s e = absurd cc
 
 known : (a : Awaited) (n : ℕ) (bs : List ℕ) (x : Said) (o : Option Tag) → tag_of n ≡ o
     → elim o as (λ _. Result Said Refusal) [ None ↦ Err refusal.Tag | Some t ↦ tagged_says a t bs ] ≡ Ok x → (n ≡ tag_number (kind_of x)) × (bs ≡ contents_of x)
-known a n bs x None q e = absurd (never_ok e)
+known a n bs x None q e = absurd cc
 known a n bs x (Some t) q e =
     let s = suited a t bs x (length_suits t (length bs)) refl e in
     (numbered tag_number every_tag n t q ∙ ap tag_number s.kind, s.whole)
@@ -109,8 +104,8 @@ together : (t high low : ℕ) (rest : List ℕ) (r : Result Said Refusal) (x : S
     → ((y : Said) → r ≡ Ok y → (t ≡ tag_number (kind_of y)) × (take (high * 256 + low) rest ≡ contents_of y))
     → elim b as (λ _. Result (Said × List ℕ) Refusal) [ false ↦ Err Cut | true ↦ followed_by r (drop (high * 256 + low) rest) ] ≡ Ok x
     → field_bytes x.0 ++ x.1 ≡ t ∷ high ∷ low ∷ rest
-together t high low rest r x false h l fits parts e = absurd (never_ok e)
-together t high low rest (Err q) x true h l fits parts e = absurd (never_ok e)
+together t high low rest r x false h l fits parts e = absurd cc
+together t high low rest (Err q) x true h l fits parts e = absurd cc
 together t high low rest (Ok y) x true h l fits parts e =
     let n = high * 256 + low in
     let same : ◌≡◌ {A = Said × List ℕ} (y, drop n rest) x = cc in
@@ -125,9 +120,9 @@ together t high low rest (Ok y) x true h l fits parts e =
     ∙ ap (λ k. t ∷ high ∷ low ∷ k) whole
 
 pub first_spelled : (a : Awaited) (bs : List ℕ) (x : Said × List ℕ) → Bytes bs → first_field a bs ≡ Ok x → field_bytes x.0 ++ x.1 ≡ bs
-first_spelled a [] x small e = absurd (never_ok e)
-first_spelled a (t ∷ []) x small e = absurd (never_ok e)
-first_spelled a (t ∷ (h ∷ [])) x small e = absurd (never_ok e)
+first_spelled a [] x small e = absurd cc
+first_spelled a (t ∷ []) x small e = absurd cc
+first_spelled a (t ∷ (h ∷ [])) x small e = absurd cc
 first_spelled a (t ∷ (h ∷ (l ∷ rest))) x small e =
     together t h l rest (field_says a t (take (h * 256 + l) rest)) x (leb (h * 256 + l) (length rest)) (small 1) (small 2) refl
     (λ y q. field_said a t (take (h * 256 + l) rest) y q) e

@@ -1,7 +1,13 @@
 -- What a reader has left to read.
-use Rattle.std.specs.Prelude.{length}
-use Rattle.sheets.specs.declared.reader.Reader.{Reader}
+use Rattle.std.specs.Prelude.{ℕ, List, length}
+use Rattle.sheets.specs.declared.awaited.Awaited.{Awaited}
 use Rattle.sheets.specs.Readings.{Reading, reading}
 
-abbrev pub left_in : Reader → Reading
-left_in reader = reading (length reader.rest.now) reader.awaited reader.total reader.rest.now
+-- how many bytes the sheet has, what has to come next, and the bytes that are left
+pub record Unread : Type 0 where
+  pub total : ℕ
+  pub awaited : Awaited
+  pub bytes : List ℕ
+
+abbrev pub left_in : Unread → Reading
+left_in unread = reading (length unread.bytes) unread.awaited unread.total unread.bytes

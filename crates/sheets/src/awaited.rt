@@ -4,7 +4,7 @@ ghost use Rattle.sheets.specs.Opening.{may_stand, awaited_after};
 use crate::tag::Tag;
 
 // What the next field of a sheet has to be: a floor first, then a preference, and calls of the table from then on.
-#[derive(Clone, Copy)]
+#[derive(Clone, Copy, PartialEq, Eq, Debug)]
 pub enum Awaited {
     Floor,
     Preference,
@@ -17,9 +17,9 @@ impl Awaited {
         ensures { result ≡ may_stand self tag }
     {
         match tag {
-            Tag::OpenFloor | Tag::DrawnFloor => matches!(self, Awaited::Floor),
-            Tag::Preference => matches!(self, Awaited::Preference),
-            Tag::Place | Tag::Assign | Tag::Lift | Tag::Beat => matches!(self, Awaited::Call),
+            Tag::OpenFloor | Tag::DrawnFloor => self == Awaited::Floor,
+            Tag::Preference => self == Awaited::Preference,
+            Tag::Place | Tag::Assign | Tag::Lift | Tag::Beat => self == Awaited::Call,
         }
     }
 

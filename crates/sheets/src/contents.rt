@@ -13,39 +13,36 @@ fn said<'a>(tag: Tag, contents: &'a [u8]) -> Result<Field<&'a [u8]>, Refusal>
     requires { length_suits tag (length contents.now) ≡ true }
     ensures { plain_said result ≡ contents_say tag contents.now }
 {
-    match tag {
-        Tag::OpenFloor => Ok(Field::Open {
+    Ok(match tag {
+        Tag::OpenFloor => Field::Open {
             width: contents[0],
             height: contents[1],
-        }),
-        Tag::DrawnFloor => Ok(Field::Drawn {
+        },
+        Tag::DrawnFloor => Field::Drawn {
             size: contents[0],
             links: &contents[1..],
-        }),
-        Tag::Preference => match PreferenceKind::from_number(contents[0]) {
-            Some(preference) => Ok(Field::Prefer { preference }),
-            None => Err(Refusal::Value),
         },
-        Tag::Place => Ok(Field::Place {
+        Tag::Preference => Field::Prefer {
+            preference: PreferenceKind::try_from(contents[0])?,
+        },
+        Tag::Place => Field::Place {
             mover: contents[0],
             tile: contents[1],
-        }),
-        Tag::Assign => Ok(Field::Assign {
+        },
+        Tag::Assign => Field::Assign {
             mover: contents[0],
             goal: contents[1],
-        }),
-        Tag::Lift => Ok(Field::Lift { mover: contents[0] }),
-        Tag::Beat => Ok(Field::Beat),
-    }
+        },
+        Tag::Lift => Field::Lift { mover: contents[0] },
+        Tag::Beat => Field::Beat,
+    })
 }
 
 // What a field says whose tag has this number, where one of kind `awaited` has to stand.
 fn checked<'a>(awaited: Awaited, number: u8, contents: &'a [u8]) -> Result<Field<&'a [u8]>, Refusal>
     ensures { plain_said result ≡ field_says awaited number contents.now }
 {
-    let Some(tag) = Tag::from_number(number) else {
-        return Err(Refusal::Tag);
-    };
+    let tag = Tag::try_from(number)?;
     if !tag.suits(contents.len()) {
         return Err(Refusal::Length);
     }
@@ -62,14 +59,12 @@ pub(crate) fn first_field<'a>(
 ) -> Result<(Field<&'a [u8]>, &'a [u8]), Refusal>
     ensures { plain_field result ≡ first_field awaited bytes.now }
 {
-    let [tag, high, low, rest @ ..] = bytes else {
+    let [number, high, low, rest @ ..] = bytes else {
         return Err(Refusal::Cut);
     };
-    let length = usize::from(*high) * 256 + usize::from(*low);
-    if length > rest.len() {
+    let length = usize::from(u16::from_be_bytes([*high, *low]));
+    let Some((contents, after)) = rest.split_at_checked(length) else {
         return Err(Refusal::Cut);
-    }
-    let (contents, after) = rest.split_at(length);
-    let field = checked(awaited, *tag, contents)?;
-    Ok((field, after))
+    };
+    Ok((checked(awaited, *number, contents)?, after))
 }

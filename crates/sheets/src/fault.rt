@@ -6,7 +6,7 @@ use base::Refusal;
 use std::fmt;
 
 // Who ended the run: the reader of the sheet, or the floor that the sheet asks for.
-#[derive(Clone, Copy)]
+#[derive(Clone, Copy, PartialEq, Eq, Debug)]
 pub enum Layer {
     Sheet,
     Floor,
@@ -16,15 +16,15 @@ impl fmt::Display for Layer {
     ghost output = { λ l. Some (layer_word l) };
 
     fn fmt<W: fmt::Write>(&self, f: &mut fmt::Formatter<W>) -> fmt::Result {
-        match self {
-            Layer::Sheet => write!(f, "sheet"),
-            Layer::Floor => write!(f, "floor"),
-        }
+        f.write_str(match self {
+            Layer::Sheet => "sheet",
+            Layer::Floor => "floor",
+        })
     }
 }
 
 // Why a run ends early, and the byte place of the tag of the field that ends it.
-#[derive(Clone, Copy)]
+#[derive(Clone, Copy, PartialEq, Eq, Debug)]
 pub struct Fault {
     pub layer: Layer,
     pub refusal: Refusal,
@@ -36,14 +36,11 @@ impl Fault {
     pub fn located<T>(layer: Layer, place: usize, answer: Result<T, Refusal>) -> Result<T, Fault>
         ensures { result ≡ result_map_both (λ x. x) (fault_at layer place) answer }
     {
-        match answer {
-            Ok(value) => Ok(value),
-            Err(refusal) => Err(Fault {
-                layer,
-                refusal,
-                place,
-            }),
-        }
+        answer.map_err(|refusal| Fault {
+            layer,
+            refusal,
+            place,
+        })
     }
 }
 

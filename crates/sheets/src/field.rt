@@ -2,7 +2,7 @@ use crate::preference::PreferenceKind;
 
 // What a field says. `L` is how the links of a drawn floor are held; the reader lends them from the sheet. Every two
 // bytes of the links name two joined tiles.
-#[derive(Clone, Copy)]
+#[derive(Clone, Copy, PartialEq, Eq, Debug)]
 pub enum Field<L> {
     Open { width: u8, height: u8 },
     Drawn { size: u8, links: L },
@@ -14,7 +14,7 @@ pub enum Field<L> {
 }
 
 // A field of a sheet, with the byte place of its tag.
-#[derive(Clone, Copy)]
+#[derive(Clone, Copy, PartialEq, Eq, Debug)]
 pub struct Entry<L> {
     pub place: usize,
     pub field: Field<L>,

@@ -7,7 +7,6 @@ pub mod fault;
 pub mod field;
 pub mod preference;
 pub mod reader;
-pub mod reading;
 pub mod tag;
 
 pub use fault::{Fault, Layer};
