@@ -1,13 +1,14 @@
 ghost use Rattle.std.specs.Prelude.{◌≡◌, ℕ, ◌+◌, ◌*◌, ◌<◌, ◌≤◌, true, false, length, is_some, IfSome, None, Decides, slice_index};
 ghost use Rattle.base.specs.Lists.{greatest};
 ghost use Rattle.floor.specs.Drawn.{stands_surveyed};
+ghost use Rattle.floor.specs.Walks.{Shortest};
 ghost use Rattle.drawn_floor.specs.Kept.{Kept};
 ghost use Rattle.drawn_floor.specs.Rings.{ring_links, ring_pulls};
-ghost use Rattle.drawn_floor.specs.Searches.{Passes, Filled, Found};
+ghost use Rattle.drawn_floor.specs.Searches.{Passes};
 
+use crate::drawing::Drawing;
 use crate::drawn::DrawnFloor;
 use crate::joined_tiles::JoinedTiles;
-use crate::search::FAR;
 use floor::{Pull, Tile};
 
 static RING_LINKS: [u8; 6] = [0, 1, 1, 2, 0, 2];
@@ -15,31 +16,27 @@ static RING_LINKS: [u8; 6] = [0, 1, 1, 2, 0, 2];
 static RING_PULLS: [Pull; 9] = [0, 1, 1, 1, 0, 1, 1, 1, 0];
 
 impl JoinedTiles {
-    // Whether the numbers are what a search finds for this goal.
+    // Whether the numbers are the steps of shortest walks to this goal.
     fn row_agrees(&self, goal: Tile, numbers: &[Pull]) -> bool
         requires goal { goal < self.now.size }
         requires long { length numbers.now ≡ self.now.size }
-        ensures { Decides result (Filled (Passes self.now.tiles None) self.now.size goal numbers.now) }
+        ensures { Decides result ((t : ℕ) → t < self.now.size → Shortest (Passes self.now.tiles None) t goal (slice_index numbers.now t)) }
     {
-        let mut space = [FAR; 255];
-        let row = &mut space[0..self.size as usize];
-        self.search(goal, None, row);
-        for tile in 0..self.size as usize {
-            if row[tile] != numbers[tile] {
-                return false;
-            }
-        }
-        true
+        let steps = self.search(goal, None);
+        numbers
+            .iter()
+            .zip(&steps)
+            .all(|(number, steps)| *steps == Some(*number))
     }
 
-    // Whether the numbers hold for each goal what a search finds for it.
+    // Whether the numbers are the steps of shortest walks, for each goal.
     fn agrees(&self, numbers: &[Pull]) -> bool
         requires { self.now.size * self.now.size ≤ length numbers.now }
-        ensures { Decides result ((g t : ℕ) → g < self.now.size → t < self.now.size → Found (Passes self.now.tiles None) self.now.size t g (slice_index numbers.now (g * self.now.size + t))) }
+        ensures { Decides result ((g t : ℕ) → g < self.now.size → t < self.now.size → Shortest (Passes self.now.tiles None) t g (slice_index numbers.now (g * self.now.size + t))) }
     {
-        let width = self.size as usize;
+        let width = usize::from(self.size);
         for goal in 0..self.size {
-            let start = goal as usize * width;
+            let start = usize::from(goal) * width;
             if !self.row_agrees(goal, &numbers[start..start + width]) {
                 return false;
             }
@@ -52,32 +49,21 @@ impl JoinedTiles {
 fn greatest_of(numbers: &[Pull]) -> Pull
     ensures { result ≡ greatest numbers.now }
 {
-    let mut most = 0;
-    for number in numbers {
-        if *number > most {
-            most = *number;
-        }
-    }
-    most
+    numbers.iter().copied().max().unwrap_or(0)
 }
 
 // The joined tiles and the reach of the floor that these make, if they stand as a granted survey leaves them.
-fn standing(size: Tile, links: &[u8], pulls: &[Pull]) -> Option<(JoinedTiles, Pull)>
-    ensures answer { is_some result ≡ stands_surveyed size links.now pulls.now }
-    ensures size { IfSome result (λ x. x.0.size ≡ size) }
-    ensures kept { IfSome result (λ x. Kept x.0.size x.0.tiles links.now pulls.now x.1) }
+fn standing(drawing: Drawing, pulls: &[Pull]) -> Option<(JoinedTiles, Pull)>
+    ensures answer { is_some result ≡ stands_surveyed drawing.entry.size drawing.entry.links.now pulls.now }
+    ensures size { IfSome result (λ x. x.0.size ≡ drawing.entry.size) }
+    ensures kept { IfSome result (λ x. Kept x.0.size x.0.tiles drawing.entry.links.now pulls.now x.1) }
 {
-    let Ok(joined) = JoinedTiles::drawn(size, links) else {
-        return None;
-    };
-    let places = size as usize * size as usize;
-    if pulls.len() < places {
+    let joined = drawing.floor().ok()?;
+    let places = usize::from(drawing.size) * usize::from(drawing.size);
+    if pulls.len() < places || !joined.agrees(pulls) {
         return None;
     }
-    if !joined.agrees(pulls) {
-        return None;
-    }
-    Some((joined, greatest_of(&pulls[0..places])))
+    Some((joined, greatest_of(&pulls[..places])))
 }
 
 // The joined tiles of the ring of three.
@@ -85,10 +71,11 @@ fn ring_tiles() -> JoinedTiles
     ensures size { result.size ≡ 3 }
     ensures kept { Kept result.size result.tiles ring_links ring_pulls 1 }
 {
-    match JoinedTiles::drawn(3, &RING_LINKS) {
-        Ok(joined) => joined,
-        Err(_) => unreachable(),
-    }
+    let ring = Drawing {
+        size: 3,
+        links: &RING_LINKS,
+    };
+    ring.floor().unwrap()
 }
 
 impl<'a> DrawnFloor<'a> {
@@ -113,10 +100,9 @@ impl<'a> DrawnFloor<'a> {
         ensures became { result ≡ true → (self.new.joined.size ≡ size) × (self.new.links.now ≡ links.now) × (self.new.pulls.now ≡ pulls.now) }
         ensures same { result ≡ false → self.new ≡ self.old }
     {
-        let Some(found) = standing(size, links, pulls) else {
+        let Some((joined, reach)) = standing(Drawing { size, links }, pulls) else {
             return false;
         };
-        let (joined, reach) = found;
         *self = DrawnFloor {
             joined,
             links,
