@@ -1,4 +1,4 @@
-ghost use Rattle.std.specs.Prelude.{◌≡◌, ℕ, ◌<◌, ◌≤◌, length, Some};
+ghost use Rattle.std.specs.Prelude.{◌≡◌, ℕ, ◌<◌, ◌≤◌, length, Some, None};
 ghost use Rattle.drawn_floor.specs.Tables.{at_place};
 
 use floor::Tile;
@@ -19,5 +19,6 @@ pub struct JoinedTiles {
     pub(crate) tiles: [Row; TILES],
     ghost least: { 3 ≤ size },
     ghost long: { length tiles ≡ 255 },
+    ghost six: { (t k : ℕ) → 6 ≤ k → at_place tiles t k ≡ None },
     ghost below: { (t k u : ℕ) → at_place tiles t k ≡ Some u → u < size },
 }

@@ -73,8 +73,10 @@ impl Search {
         requires tile { tile < 255 }
         ensures { Meets (λ u. Passes joined.now.tiles cut u tile) self.old self.new }
     {
-        for next in joined.tiles[usize::from(tile)].iter().flatten() {
-            if !is_left_out(cut, tile, *next) {
+        for place in &joined.tiles[usize::from(tile)] {
+            if let Some(next) = place
+                && !is_left_out(cut, tile, *next)
+            {
                 self.meet(*next);
             }
         }
@@ -86,9 +88,8 @@ impl Search {
         requires tile { tile < 255 }
         ensures { Meets (λ u. u ≡ tile) self.old self.new }
     {
-        let steps = &mut self.steps[usize::from(tile)];
-        if steps.is_none() {
-            *steps = Some(self.far);
+        if self.steps[usize::from(tile)].is_none() {
+            self.steps[usize::from(tile)] = Some(self.far);
             self.layer.push(tile);
         }
     }
