@@ -1,5 +1,5 @@
 -- The places of a tile's row, one after the other, as a search looks at them.
-use Rattle.std.proofs.Common.{◌≡◌, ℕ, ◌+◌, ◌<◌, ◌≤◌, false, ◌⊎◌, List, [], length, get_or, Some, None, Option, sym, ap, ◌∙◌, inl, inr, arith}
+use Rattle.std.proofs.Common.{◌≡◌, ℕ, ◌+◌, ◌<◌, ◌≤◌, false, ◌⊎◌, List, [], length, get_or, Some, None, Option, sym, ap, ◌∙◌, subst, inl, inr, arith}
 use Rattle.std.proofs.lemmas.Bool.{cases_lt, true≢false}
 use Rattle.std.proofs.lemmas.List.{get_or_past}
 use Rattle.base.proofs.Testing.{some_not_none}
@@ -56,3 +56,25 @@ module _ (tiles : List (List (Option ℕ))) (cut : Option (ℕ × ℕ)) (t : ℕ
       where
         one_only : {o : Option ℕ} {a b : ℕ} → o ≡ Some a → o ≡ Some b → a ≡ b
         one_only p q = cc
+
+-- u comes to one of the first k tiles of a layer in one step
+abbrev pub BehindFirst : (ℕ → ℕ → Type 0) → List ℕ → ℕ → ℕ → Type 0
+BehindFirst Goes layer k u = (i : ℕ) × (i < k) × Goes u (get_or layer i 0)
+
+module _ (Goes : ℕ → ℕ → Type 0) (layer : List ℕ) where
+  -- no tile of the layer was passed
+  pub behind_first : (s : Search) → Meets (BehindFirst Goes layer 0) s s
+  behind_first s = meets_none s (λ u h. omega (arith, h.1))
+
+  -- one tile more was passed
+  pub behind_more : (k : ℕ) → (r s after : Search) → Meets (BehindFirst Goes layer k) r s → Meets (λ u. Goes u (get_or layer k 0)) s after → Meets (BehindFirst Goes layer (k + 1)) r after
+  behind_more k r s after before now =
+      meets_as r after (λ u h. elim h [
+        | inl old ↦ (old.0, omega (arith, old.1), old.2)
+        | inr new ↦ (k, omega arith, new)
+      ]) (λ u h. elim (cases_lt h.0 k) [
+        | inl less ↦ inl (h.0, less, h.2)
+        | inr more ↦
+            let here : h.0 ≡ k = omega (arith, h.1) in
+            inr (subst (λ i. Goes u (get_or layer i 0)) here h.2)
+      ]) (meets_then r s after before now)

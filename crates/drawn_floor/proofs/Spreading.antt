@@ -149,20 +149,20 @@ module _ (Goes : ℕ → ℕ → Type 0) (g : ℕ) where
   only_stay stay = refl
 
   -- The search begins: only its goal was met, and no step leads there.
-  pub layered_begun : (s : Search) → s.far ≡ 0 → Spreads (λ u. u ≡ g) 0 (replicate 255 None) s.steps s.layer.items → Layered Goes g s
+  pub layered_begun : (s : Search) → s.far ≡ 0 → Spreads (λ u. u ≡ g) 0 (replicate 256 None) s.steps s.layer.items → Layered Goes g s
   layered_begun s far spread =
       let meets : (t e : ℕ) → steps_of s.steps t ≡ Some e → (e ≡ 0) × (t ≡ g) = λ t e h.
         elim (spread.new t e h) [
-          | inl old ↦ absurd (some_not_none old (none_met 255 t))
+          | inl old ↦ absurd (some_not_none old (none_met 256 t))
           | inr new ↦ (new.1, new.2)
         ] in
       record {
-        long = spread.long ∙ length-replicate {A = Option ℕ} 255 None;
+        long = spread.long ∙ length-replicate {A = Option ℕ} 256 None;
         met = λ t e h. let m = meets t e h in (record { walk = subst (λ k. Walk Goes t g k) (sym m.0) (subst (λ x. Walk Goes x g 0) (sym m.1) stay); least = λ k w. omega (arith, m.0) }, omega (arith, m.0));
         near = λ t k w l. let z : k ≡ 0 = omega (arith, far) in spread.all t (only_stay (subst (λ n. Walk Goes t g n) z w));
-        back = λ t h. spread.back t s.far (none_met 255 t) h;
+        back = λ t h. spread.back t s.far (none_met 256 t) h;
         listed = λ i l. (spread.listed i l).1 ∙ ap Some (sym far);
-        few = omega (arith, far, spread.count, unmet_none 255);
+        few = omega (arith, far, spread.count, unmet_none 256);
       }
 
   module _ (s : Search) (layered : Layered Goes g s) where

@@ -31,7 +31,7 @@ Meets Next s t = (t.far ≡ s.far) × ((added : List ℕ) × (t.layer.items ≡ 
 
 -- each tile that the search can still meet has a place in its layer
 abbrev pub HasRoom : Search → Type 0
-HasRoom s = unmet s.steps + length s.layer.items ≤ 255
+HasRoom s = unmet s.steps + length s.layer.items ≤ 256
 
 -- a tile from which one comes to a tile of the layer in one step
 abbrev pub Behind : (ℕ → ℕ → Type 0) → List ℕ → ℕ → Type 0
@@ -40,10 +40,10 @@ Behind Goes layer u = (i : ℕ) × (i < length layer) × Goes u (slice_index lay
 -- The search has met each tile from which a walk of at most `far` steps leads to g, and no other. The tiles of its layer
 -- are those that are `far` steps from g.
 pub record Layered (Goes : ℕ → ℕ → Type 0) (g : ℕ) (s : Search) : Type 0 where
-  pub long : length s.steps ≡ 255
+  pub long : length s.steps ≡ 256
   pub met : (t e : ℕ) → steps_of s.steps t ≡ Some e → Shortest Goes t g e × (e ≤ s.far)
   pub near : (t k : ℕ) → Walk Goes t g k → k ≤ s.far → IsSome (steps_of s.steps t)
   pub back : (t : ℕ) → steps_of s.steps t ≡ Some s.far → (i : ℕ) × (i < length s.layer.items) × (slice_index s.layer.items i ≡ t)
   pub listed : (i : ℕ) → i < length s.layer.items → steps_of s.steps (slice_index s.layer.items i) ≡ Some s.far
   -- so many tiles can still be met
-  pub few : s.far + (unmet s.steps + length s.layer.items) ≤ 255
+  pub few : s.far + (unmet s.steps + length s.layer.items) ≤ 256

@@ -6,8 +6,8 @@ use floor::Tile;
 // The most tiles that may be joined to one tile.
 pub(crate) const MOST: usize = 6;
 
-// The most tiles that a floor can have.
-pub(crate) const TILES: usize = 255;
+// A place for each number that a tile can have.
+pub(crate) const TILES: usize = 256;
 
 // The tiles that are joined to one tile, ascending; the places that are left hold none.
 pub(crate) type Row = [Option<Tile>; MOST];
@@ -18,7 +18,7 @@ pub struct JoinedTiles {
     pub(crate) size: Tile,
     pub(crate) tiles: [Row; TILES],
     ghost least: { 3 ≤ size },
-    ghost long: { length tiles ≡ 255 },
+    ghost long: { length tiles ≡ 256 },
     ghost six: { (t k : ℕ) → 6 ≤ k → at_place tiles t k ≡ None },
     ghost below: { (t k u : ℕ) → at_place tiles t k ≡ Some u → u < size },
 }

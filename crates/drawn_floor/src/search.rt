@@ -1,4 +1,4 @@
-ghost use Rattle.std.specs.Prelude.{◌≡◌, ℕ, ◌+◌, ◌<◌, ◌≤◌, length, replicate, slice_index, None};
+ghost use Rattle.std.specs.Prelude.{◌≡◌, ◌+◌, ◌<◌, ◌≤◌, length, replicate, None};
 ghost use Rattle.drawn_floor.specs.Searches.{left_out, Passes, Filled};
 ghost use Rattle.drawn_floor.specs.Spreading.{Behind, HasRoom, Meets, Spreads, unmet};
 
@@ -39,9 +39,8 @@ impl JoinedTiles {
 impl Search {
     // A search that has met its goal alone.
     fn begun(goal: Tile) -> Search
-        requires { goal < 255 }
         ensures far { result.far ≡ 0 }
-        ensures spreads { Spreads (λ u. u ≡ goal) 0 (replicate 255 None) result.steps result.layer.items }
+        ensures spreads { Spreads (λ u. u ≡ goal) 0 (replicate 256 None) result.steps result.layer.items }
     {
         let mut search = Search {
             steps: [None; TILES],
@@ -54,9 +53,8 @@ impl Search {
 
     // Meets the tiles that are joined to those of the layer, which become the next layer.
     fn spread(&mut self, joined: &JoinedTiles, cut: Option<(Tile, Tile)>)
-        requires few { self.old.far + (unmet self.old.steps + length self.old.layer.items) ≤ 255 }
+        requires few { self.old.far + (unmet self.old.steps + length self.old.layer.items) ≤ 256 }
         requires some { 0 < length self.old.layer.items }
-        requires tiles { (i : ℕ) → i < length self.old.layer.items → slice_index self.old.layer.items i < 255 }
         ensures far { self.new.far ≡ self.old.far + 1 }
         ensures spreads { Spreads (Behind (Passes joined.now.tiles cut) self.old.layer.items) self.new.far self.old.steps self.new.steps self.new.layer.items }
     {
@@ -69,8 +67,7 @@ impl Search {
 
     // Meets the tiles that are joined to `tile`, but not by the pair `cut`.
     fn meet_joined(&mut self, joined: &JoinedTiles, cut: Option<(Tile, Tile)>, tile: Tile)
-        requires room { HasRoom self.old }
-        requires tile { tile < 255 }
+        requires { HasRoom self.old }
         ensures { Meets (λ u. Passes joined.now.tiles cut u tile) self.old self.new }
     {
         for place in &joined.tiles[usize::from(tile)] {
@@ -84,8 +81,7 @@ impl Search {
 
     // Notes how far `tile` is from the goal, unless it was met before.
     fn meet(&mut self, tile: Tile)
-        requires room { HasRoom self.old }
-        requires tile { tile < 255 }
+        requires { HasRoom self.old }
         ensures { Meets (λ u. u ≡ tile) self.old self.new }
     {
         if self.steps[usize::from(tile)].is_none() {

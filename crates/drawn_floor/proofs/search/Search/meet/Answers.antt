@@ -7,7 +7,7 @@ pub push-requires : goal.push-requires
 push-requires c =
     let steps = c.args.self.now.steps in
     let within : c.args.tile < length steps = search rules in
-    (lit< tt, omega (arith, c.requires.room, unmet_some steps c.args.tile within (none_at steps c.from.ensures c.if-is_none.ensures)))
+    (lit< tt, omega (arith, c.requires, unmet_some steps c.args.tile within (none_at steps c.from.ensures c.if-is_none.ensures)))
 
 pub returns-then-is_none : goal.returns-then-is_none
 returns-then-is_none c =
