@@ -1,2 +1,6 @@
+mod Adopting
+mod Finding
+mod Measuring
 mod Rows
 mod Spreading
+mod Turns

@@ -19,13 +19,13 @@ module _ (tiles : List (List (Option ℕ))) (cut : Option (ℕ × ℕ)) (t : ℕ
   passed_first s = meets_none s (λ u h. omega (arith, h.0.1))
 
   -- all were passed
-  pub passed_last : (k : ℕ) → 6 ≤ k → ((j : ℕ) → 6 ≤ j → at_place tiles t j ≡ None) → (r s : Search) → Meets (Passed tiles cut t k) r s → Meets (λ u. Passes tiles cut u t) r s
-  passed_last k all six r s = meets_as r s (λ u h. ((h.0.0, h.0.2), h.1)) (λ u h. ((h.0.0, within h.0.0 u h.0.1, h.0.1), h.1))
+  pub passed_last : (k : ℕ) → length (get_or tiles t []) ≤ k → (r s : Search) → Meets (Passed tiles cut t k) r s → Meets (λ u. Passes tiles cut u t) r s
+  passed_last k all r s = meets_as r s (λ u h. ((h.0.0, h.0.2), h.1)) (λ u h. ((h.0.0, within h.0.0 u h.0.1, h.0.1), h.1))
     where
       within : (j u : ℕ) → at_place tiles t j ≡ Some u → j < k
       within j u is = elim (cases_lt j k) [
         | inl less ↦ less
-        | inr more ↦ absurd (some_not_none is (six j (omega arith)))
+        | inr more ↦ absurd (some_not_none is (get_or_past (get_or tiles t []) j None (omega arith)))
       ]
 
   module _ (k : ℕ) where

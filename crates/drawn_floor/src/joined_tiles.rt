@@ -1,4 +1,4 @@
-ghost use Rattle.std.specs.Prelude.{◌≡◌, ℕ, ◌<◌, ◌≤◌, length, Some, None};
+ghost use Rattle.std.specs.Prelude.{◌≡◌, ℕ, ◌<◌, ◌≤◌, [], length, Some, slice_index_or};
 ghost use Rattle.drawn_floor.specs.Tables.{at_place};
 
 use floor::Tile;
@@ -19,6 +19,6 @@ pub struct JoinedTiles {
     pub(crate) tiles: [Row; TILES],
     ghost least: { 3 ≤ size },
     ghost long: { length tiles ≡ 256 },
-    ghost six: { (t k : ℕ) → 6 ≤ k → at_place tiles t k ≡ None },
+    ghost wide: { (t : ℕ) → t < 256 → length (slice_index_or tiles t []) ≡ 6 },
     ghost below: { (t k u : ℕ) → at_place tiles t k ≡ Some u → u < size },
 }

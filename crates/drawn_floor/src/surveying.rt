@@ -17,9 +17,10 @@ impl JoinedTiles {
         requires long { length row.old ≡ self.now.size }
         ensures { (t d : ℕ) → t < self.now.size → Shortest (Passes self.now.tiles None) t goal d → slice_index row.new t ≡ d }
     {
-        for (place, steps) in row.iter_mut().zip(&self.search(goal, None)) {
-            if let Some(steps) = steps {
-                *place = *steps;
+        let found = self.search(goal, None);
+        for (tile, place) in row.iter_mut().enumerate() {
+            if let Some(steps) = found[tile] {
+                *place = steps;
             }
         }
     }

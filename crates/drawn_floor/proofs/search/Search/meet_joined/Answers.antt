@@ -35,4 +35,5 @@ loop-place-preserved c =
 pub returns : goal.returns
 returns c =
     let joined = c.args.joined.now in
-    passed_last joined.tiles c.args.cut c.args.tile c.loop-place.place-index c.loop-place-test.false (joined.six c.args.tile) c.args.self.now c.loop-place.self c.loop-place.invariant
+    let all : length (get_or joined.tiles c.args.tile []) ≤ c.loop-place.place-index = omega (arith, joined.wide c.args.tile c.ranges.tile.fits, c.loop-place-test.false) in
+    passed_last joined.tiles c.args.cut c.args.tile c.loop-place.place-index all c.args.self.now c.loop-place.self c.loop-place.invariant
