@@ -1,10 +1,10 @@
 -- What a search finds, said of the links that the table was made of.
-use Rattle.std.proofs.Common.{◌≡◌, ℕ, ◌+◌, ◌*◌, ◌<◌, ◌≤◌, Bool, true, false, not, eqb, ltb, List, [], ◌∷◌, length, get_or, take, Some, None, Decides, Option, sym, refl, ap, ◌∙◌, subst, inl, inr, arith}
-use Rattle.std.specs.List.{slice_get, list_any}
+use Rattle.std.proofs.Common.{◌≡◌, ℕ, ◌+◌, ◌*◌, ◌<◌, ◌≤◌, Bool, true, false, not, ◌&&◌, zero, suc, eqb, ltb, List, [], ◌∷◌, length, get_or, take, Some, None, Decides, Option, sym, refl, ap, ◌∙◌, subst, inl, inr, arith}
+use Rattle.std.specs.List.{slice_get, list_all, list_any, zip}
 use Rattle.std.proofs.lemmas.List.{get_or_default, get_or-take, length-take-le}
 use Rattle.std.proofs.lemmas.Option.{slice_get-get_or, slice_get_past}
-use Rattle.std.proofs.lemmas.Bool.{and_parts, and_from, cases_lt, ltb-false, eqb-true, eq-eqb, both_ways, not-true, not_from_false}
-use Rattle.std.proofs.lemmas.Bool.Decides.{Decides-like, Decides-by_or, Decides-not, same_from_decides}
+use Rattle.std.proofs.lemmas.Bool.{false≢true, and_parts, and_from, cases_lt, ltb-false, eqb-true, eq-eqb, both_ways, not-true, not_from_false}
+use Rattle.std.proofs.lemmas.Bool.Decides.{Decides-and, Decides-like, Decides-by_or, Decides-not, same_from_decides}
 use Rattle.base.specs.Lists.{is_among}
 use Rattle.base.proofs.Ascending.{false_by}
 use Rattle.base.proofs.Numbers.{some_in, none_below, those_among}
@@ -23,6 +23,10 @@ use Rattle.drawn_floor.specs.Tables.{Tabled, Listed}
 pub found_some : {Goes : ℕ → ℕ → Type 0} {t g d : ℕ} (o : Option ℕ) → Found Goes t g o → Shortest Goes t g d → o ≡ Some d
 found_some {d = d} None none short = absurd (none d short.walk)
 found_some (Some e) near short = ap Some (shortest_once near short)
+
+pub some_found : {Goes : ℕ → ℕ → Type 0} {t g d : ℕ} (o : Option ℕ) → Found Goes t g o → o ≡ Some d → Shortest Goes t g d
+some_found None none is = absurd (some_not_none is refl)
+some_found {Goes} {t} {g} (Some e) near is = let same : e ≡ _ = cc in subst (λ k. Shortest Goes t g k) same near
 
 pub found_none : {Goes : ℕ → ℕ → Type 0} {t g : ℕ} (o : Option ℕ) → Found Goes t g o → o ≡ None → (k : ℕ) → Walk Goes t g k → ⊥
 found_none None none is = none
@@ -43,6 +47,29 @@ missing_decides test is not n row room =
     each : (o : Option ℕ) → Decides (test o) (o ≡ None)
     each None = (λ e. refl, λ e. is)
     each (Some d) = (λ e. absurd (both_ways (test (Some d)) (not d) e), λ e. absurd (some_not_none refl e))
+
+-- a number, and the steps that a search found
+abbrev pub is_steps : ℕ × Option ℕ → Bool
+is_steps (d, None) = false
+is_steps (d, Some e) = eqb e d
+
+is_steps_decides : (d : ℕ) (o : Option ℕ) → Decides (is_steps (d, o)) (o ≡ Some d)
+is_steps_decides d None = (λ e. absurd (false≢true e), λ e. absurd (some_not_none e refl))
+is_steps_decides d (Some e) = (λ is. ap Some (eqb-true e d is), λ is. let same : e ≡ d = cc in eq-eqb e d same)
+
+-- a row of numbers agrees with a row of steps
+pub row_decides : (numbers : List ℕ) (row : List (Option ℕ)) → length numbers ≤ length row → Decides (list_all is_steps (zip numbers row)) ((t : ℕ) → t < length numbers → get_or row t None ≡ Some (get_or numbers t 0))
+row_decides [] row room = (λ e t l. absurd (omega arith), λ h. refl)
+row_decides (d ∷ ds) [] room = absurd (omega arith)
+row_decides (d ∷ ds) (o ∷ os) room =
+    Decides-like (is_steps (d, o) && list_all is_steps (zip ds os))
+    (λ h. both_places h.0 h.1)
+    (λ h. (h 0 (omega arith), λ t l. h (suc t) (omega arith)))
+    (Decides-and (is_steps (d, o)) (list_all is_steps (zip ds os)) (is_steps_decides d o) (row_decides ds os (omega arith)))
+  where
+    both_places : o ≡ Some d → ((t : ℕ) → t < length ds → get_or os t None ≡ Some (get_or ds t 0)) → (t : ℕ) → t < length (d ∷ ds) → get_or (o ∷ os) t None ≡ Some (get_or (d ∷ ds) t 0)
+    both_places here later zero l = here
+    both_places here later (suc t) l = later t (omega arith)
 
 nth_in : (xs : List ℕ) (y : ℕ) → is_among y xs ≡ true → (k : ℕ) × (k < length xs) × (slice_get xs k ≡ Some y)
 nth_in xs y e =

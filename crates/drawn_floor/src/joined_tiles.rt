@@ -18,6 +18,7 @@ pub struct JoinedTiles {
     pub(crate) size: Tile,
     pub(crate) tiles: [Row; TILES],
     ghost least: { 3 ≤ size },
+    ghost fits: { size < 256 },
     ghost long: { length tiles ≡ 256 },
     ghost wide: { (t : ℕ) → t < 256 → length (slice_index_or tiles t []) ≡ 6 },
     ghost below: { (t k u : ℕ) → at_place tiles t k ≡ Some u → u < size },

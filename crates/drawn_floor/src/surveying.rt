@@ -31,9 +31,9 @@ impl JoinedTiles {
         ensures found { (g t d : ℕ) → g < self.now.size → t < self.now.size → Shortest (Passes self.now.tiles None) t g d → slice_index distances.new (g * self.now.size + t) ≡ d }
         ensures beyond { drop (self.now.size * self.now.size) distances.new ≡ drop (self.now.size * self.now.size) distances.old }
     {
-        let width = usize::from(self.size);
+        let width = self.size as usize;
         for goal in 0..self.size {
-            let start = usize::from(goal) * width;
+            let start = goal as usize * width;
             self.measure_to(goal, &mut distances[start..start + width]);
         }
     }
