@@ -1,6 +1,7 @@
 -- When size, links and numbers stand as a granted survey leaves them, said of the table of joined tiles.
-use Rattle.std.proofs.Common.{◌≡◌, ℕ, ◌+◌, ◌*◌, ◌/◌, ◌%◌, ◌<◌, ◌≤◌, true, false, List, length, get_or, take, Some, None, Option, sym, refl, ap, ◌∙◌, subst, inl, arith}
-use Rattle.std.specs.List.{slice_get}
+use Rattle.std.proofs.Common.{◌≡◌, ℕ, ◌+◌, ◌*◌, ◌/◌, ◌%◌, ◌<◌, ◌≤◌, true, false, max, List, [], ◌∷◌, length, get_or, take, Some, None, Option, sym, refl, ap, ◌∙◌, subst, inl, arith}
+use Rattle.std.specs.List.{slice_get, fold, reduce}
+use Rattle.std.specs.Option.{option_map, unwrap_or}
 use Rattle.std.proofs.lemmas.Nat.{div-add-mod', div_below, mod_below, div-mul-add, mod-mul-add}
 use Rattle.std.proofs.lemmas.Bool.{eqb-true, eq-eqb, false≢true}
 use Rattle.base.proofs.Ascending.{false_by}
@@ -19,6 +20,17 @@ use Rattle.drawn_floor.specs.Rings.{ring_links, ring_pulls}
 use Rattle.drawn_floor.specs.Searches.{Passes}
 use Rattle.drawn_floor.specs.Tables.{at_place, Tabled}
 use Rattle.drawn_floor.proofs.Measuring.{distance_shortest, shortest_distances, granted}
+
+greatest_from : (x : ℕ) (xs : List ℕ) → fold max x xs ≡ max x (greatest xs)
+greatest_from x [] = omega arith
+greatest_from x (y ∷ ys) = greatest_from (max x y) ys ∙ omega arith
+
+-- the greatest as the library finds it, none of no number
+pub greatest_found : (xs : List ℕ) (o : Option ℕ) → option_map (λ x. x) o ≡ reduce max xs → unwrap_or o 0 ≡ greatest xs
+greatest_found [] None e = refl
+greatest_found [] (Some y) e = absurd (some_not_none refl e)
+greatest_found (x ∷ xs) None e = absurd (some_not_none refl (sym e))
+greatest_found (x ∷ xs) (Some y) e = let same : y ≡ fold max x xs = cc in same ∙ greatest_from x xs
 
 -- what the row of tile t holds at place k
 pub placed_at : (n : ℕ) (links : List ℕ) (tiles : List (List (Option ℕ))) → InPlace n links tiles → (t k : ℕ) → t < n → at_place tiles t k ≡ slice_get (joined_to (drawn_model n links) t) k

@@ -59,7 +59,7 @@ fn standing(drawing: Drawing, pulls: &[Pull]) -> Option<(JoinedTiles, Pull)>
     ensures kept { IfSome result (λ x. Kept x.0.size x.0.tiles drawing.entry.links.now pulls.now x.1) }
 {
     let joined = drawing.floor().ok()?;
-    let places = usize::from(drawing.size) * usize::from(drawing.size);
+    let places = drawing.size as usize * drawing.size as usize;
     if pulls.len() < places || !joined.agrees(pulls) {
         return None;
     }

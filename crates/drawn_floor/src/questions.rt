@@ -30,8 +30,8 @@ impl<'a> Floor for DrawnFloor<'a> {
         if tile >= self.joined.size {
             return None;
         }
-        let row = self.joined.tiles[usize::from(tile)];
-        row.get(usize::from(k)).copied().flatten()
+        let row = self.joined.tiles[tile as usize];
+        row.get(k as usize).copied().flatten()
     }
 
     fn pull(&self, tile: Tile, goal: Tile) -> Option<Pull> {
@@ -39,6 +39,6 @@ impl<'a> Floor for DrawnFloor<'a> {
         if tile >= n || goal >= n {
             return None;
         }
-        Some(self.pulls[usize::from(goal) * usize::from(n) + usize::from(tile)])
+        Some(self.pulls[goal as usize * n as usize + tile as usize])
     }
 }

@@ -48,7 +48,7 @@ pub fn survey(size: Tile, links: &[u8], distances: &mut [Pull]) -> Result<(), Re
     ensures stands { is_ok result ≡ true → stands_surveyed size links.now distances.new ≡ true }
 {
     let joined = Drawing { size, links }.floor()?;
-    if distances.len() < usize::from(size) * usize::from(size) {
+    if distances.len() < size as usize * size as usize {
         return Err(Refusal::ShortList);
     }
     joined.measure(distances);
