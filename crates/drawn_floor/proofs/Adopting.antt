@@ -1,7 +1,8 @@
 -- When size, links and numbers stand as a granted survey leaves them, said of the table of joined tiles.
-use Rattle.std.proofs.Common.{◌≡◌, ℕ, ◌+◌, ◌*◌, ◌/◌, ◌%◌, ◌<◌, ◌≤◌, true, false, max, List, [], ◌∷◌, length, get_or, take, Some, None, Option, sym, refl, ap, ◌∙◌, subst, inl, arith}
+use Rattle.std.proofs.Common.{◌≡◌, ℕ, ◌+◌, ◌*◌, ◌/◌, ◌%◌, ◌<◌, ◌≤◌, true, false, max, List, [], ◌∷◌, length, get_or, take, IfOk, IsOk, Some, None, Ok, Err, Option, Result, sym, refl, ap, ◌∙◌, subst, inl, arith}
 use Rattle.std.specs.List.{slice_get, fold, reduce}
 use Rattle.std.specs.Option.{option_map, unwrap_or}
+use Rattle.std.specs.Result.{result_ok, result_err}
 use Rattle.std.proofs.lemmas.Nat.{div-add-mod', div_below, mod_below, div-mul-add, mod-mul-add}
 use Rattle.std.proofs.lemmas.Bool.{eqb-true, eq-eqb, false≢true}
 use Rattle.base.proofs.Ascending.{false_by}
@@ -20,6 +21,19 @@ use Rattle.drawn_floor.specs.Rings.{ring_links, ring_pulls}
 use Rattle.drawn_floor.specs.Searches.{Passes}
 use Rattle.drawn_floor.specs.Tables.{at_place, Tabled}
 use Rattle.drawn_floor.proofs.Measuring.{distance_shortest, shortest_distances, granted}
+
+-- an answer without a value, and one with it
+pub refused_of : {X : Type 0} (r : Result X Refusal) → result_ok r ≡ None → (e : Refusal) × (Some e ≡ result_err r)
+refused_of (Ok x) none = absurd (some_not_none refl none)
+refused_of (Err e) none = (e, refl)
+
+pub granted_of : {X : Type 0} (r : Result X Refusal) (x : X) (P : X → Type 0) → result_ok r ≡ Some x → IfOk r P → (None ≡ result_err r) × P x
+granted_of (Ok y) x P some h = let same : y ≡ x = cc in (refl, subst P same h)
+granted_of (Err e) x P some h = absurd (some_not_none some refl)
+
+pub ok_of : {X : Type 0} (r : Result X Refusal) → result_err r ≡ None → IsOk r
+ok_of (Ok x) none = refl
+ok_of (Err e) none = absurd (some_not_none refl none)
 
 greatest_from : (x : ℕ) (xs : List ℕ) → fold max x xs ≡ max x (greatest xs)
 greatest_from x [] = omega arith

@@ -82,6 +82,10 @@ in_nth xs k y e = elim (cases_lt k (length xs)) [
   | inr l ↦ absurd (some_not_none e (slice_get_past xs k l))
 ]
 
+-- r says whether some pair has no walk round it
+abbrev pub NeckFound : Bool → List (List (Option ℕ)) → List (ℕ × ℕ) → Type 0
+NeckFound r tiles ps = Decides r ((i : ℕ) × (i < length ps) × (((k : ℕ) × Walk (Passes tiles (Some (get_or ps i (0, 0)))) (get_or ps i (0, 0)).0 (get_or ps i (0, 0)).1 k) → ⊥))
+
 -- a table of n tiles that holds for each tile those that the pairs join to it, at most six
 module _ (n : ℕ) (ps : List (ℕ × ℕ)) (tiles : List (List (Option ℕ))) (known : names_stranger n ps ≡ false) (tabled : Tabled n (linked_to n ps) tiles) where
   linked_listed : (a b : ℕ) → linked ps a b ≡ true → Listed tiles b a
@@ -143,13 +147,17 @@ module _ (n : ℕ) (links : List ℕ) (tiles : List (List (Option ℕ))) (pass :
 
   -- a test that looks for such a pair is that of the survey
   pub neck_found : (r : Bool)
-      → Decides r ((i : ℕ) × (i < length (pairs_of links)) × (((k : ℕ) × Walk (Passes tiles (Some (get_or (pairs_of links) i (0, 0)))) (get_or (pairs_of links) i (0, 0)).0 (get_or (pairs_of links) i (0, 0)).1 k) → ⊥))
+      → NeckFound r tiles (pairs_of links)
       → r ≡ has_neck n (pairs_of links)
   neck_found r found =
       let ps = pairs_of links in
       same_from_decides r (has_neck n ps)
       (Decides-like r (λ h. (h.0, h.1, (off_ring h.0 h.1).1 h.2)) (λ h. (h.0, h.1, (off_ring h.0 h.1).0 h.2)) found)
       (some_in (λ p. not (is_in_ring n ps p)) ps (0, 0))
+
+-- a test that looks for such a pair, of the same pairs
+pub necked : (r : Bool) (tiles : List (List (Option ℕ))) {ps qs : List (ℕ × ℕ)} → ps ≡ qs → NeckFound r tiles ps → NeckFound r tiles qs
+necked r tiles same found = subst (NeckFound r tiles) same found
 
 both : {a b c d : Bool} → a ≡ b → c ≡ d → ◌≡◌ {A = Bool × Bool} (a, c) (b, d)
 both {b = b} {c = c} e f = ap (λ x. (x, c)) e ∙ ap (λ y. (b, y)) f
@@ -169,7 +177,7 @@ module _ (n m : ℕ) (links : List ℕ) (tiles : List (List (Option ℕ))) (none
 
   -- both searches together
   pub made_answer : {split neck : Bool} (r q : Bool) → r ≡ split → q ≡ neck → Decides r ((t : ℕ) × (t < m) × ((k : ℕ) → Walk (Passes tiles None) t 0 k → ⊥))
-      → Decides q ((i : ℕ) × (i < length (pairs_of links)) × (((k : ℕ) × Walk (Passes tiles (Some (get_or (pairs_of links) i (0, 0)))) (get_or (pairs_of links) i (0, 0)).0 (get_or (pairs_of links) i (0, 0)).1 k) → ⊥))
+      → NeckFound q tiles (pairs_of links)
       → first_refusal ((split, Split) ∷ (neck, Neck) ∷ []) ≡ drawing_refusal n links
   made_answer r q s k found round =
       sym (ap (λ b. first_refusal ((b.0, Split) ∷ (b.1, Neck) ∷ [])) (both s k))

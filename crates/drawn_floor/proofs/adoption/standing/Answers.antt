@@ -1,0 +1,43 @@
+use Rattle.std.proofs.Common.{◌≡◌, is_some, sym, ap, ◌∙◌}
+use Rattle.std.proofs.lemmas.Bool.Decides.{not_from_Decides}
+use Rattle.base.specs.Lists.{greatest}
+use Rattle.floor.specs.Links.{pairs_of, linked_to}
+use Rattle.drawn_floor.specs.Tables.{Tabled}
+use Rattle.drawn_floor.specs.declared.joined_tiles.JoinedTiles.{JoinedTiles}
+use Rattle.drawn_floor.proofs.Adopting.{refused_of, granted_of, no_floor, no_room, agreed, not_agreed, kept_made}
+use Rattle.drawn_floor.proofs.adoption.standing.Goals as goal
+use Rattle.drawn_floor.proofs.adoption.standing.Goals.{then-pulls-places-via-then-pulls-places, then-pulls-places-via-else-pulls-places+then-not-agrees}
+
+pub returns-in_err-joined-clause-answer : goal.returns-in_err-joined-clause-answer
+returns-in_err-joined-clause-answer c =
+    let refused = refused_of c.floor.result (sym c.ok.ensures.value ∙ c.in_err-joined.was) in
+    ap is_some c.from_residual.ensures ∙ no_floor c.args.drawing.size c.args.drawing.links.now c.args.pulls.now (refused.1 ∙ c.floor.ensures.answer)
+
+pub returns-then-pulls-places-clause-answer : goal.returns-then-pulls-places-clause-answer
+returns-then-pulls-places-clause-answer c =
+    let n = c.args.drawing.size in
+    let links = c.args.drawing.links.now in
+    let pulls = c.args.pulls.now in
+    let joined = c.in_ok-joined.joined in
+    let told = granted_of c.floor.result joined (λ j. (j.size ≡ n) × Tabled n (linked_to n (pairs_of links)) j.tiles) (sym c.ok.ensures.value ∙ c.in_ok-joined.was) c.floor.ensures.made in
+    elim c.then-pulls-places.branch [
+      | then-pulls-places-via-then-pulls-places w ↦ no_room n links pulls w.if-pulls-places.true
+      | then-pulls-places-via-else-pulls-places+then-not-agrees w ↦
+          not_agreed n joined.size links pulls joined.tiles (told.0 ∙ c.floor.ensures.answer) told.1 (not_from_Decides w.agrees.result w.agrees.ensures w.if-not-agrees.true)
+    ]
+
+pub returns-clause-answer : goal.returns-clause-answer
+returns-clause-answer c =
+    let n = c.args.drawing.size in
+    let links = c.args.drawing.links.now in
+    let joined = c.in_ok-joined.joined in
+    let told = granted_of c.floor.result joined (λ j. (j.size ≡ n) × Tabled n (linked_to n (pairs_of links)) j.tiles) (sym c.ok.ensures.value ∙ c.in_ok-joined.was) c.floor.ensures.made in
+    sym (agreed n joined.size links c.args.pulls.now joined.tiles (told.0 ∙ c.floor.ensures.answer) told.1 c.if-pulls-places.false (c.agrees.ensures.0 c.if-not-agrees.false))
+
+pub returns-clause-kept : goal.returns-clause-kept
+returns-clause-kept c =
+    let n = c.args.drawing.size in
+    let links = c.args.drawing.links.now in
+    let joined = c.in_ok-joined.joined in
+    let told = granted_of c.floor.result joined (λ j. (j.size ≡ n) × Tabled n (linked_to n (pairs_of links)) j.tiles) (sym c.ok.ensures.value ∙ c.in_ok-joined.was) c.floor.ensures.made in
+    kept_made n joined.size links c.args.pulls.now joined.tiles (told.0 ∙ c.floor.ensures.answer) told.1 c.if-pulls-places.false (c.agrees.ensures.0 c.if-not-agrees.false) c.greatest_of.ensures
