@@ -1,4 +1,4 @@
-ghost use Rattle.std.specs.Prelude.{◌≡◌, ℕ, ◌<◌, ◌≤◌, true, false, ◌||◌, length, MatchOption, nat_lt};
+ghost use Rattle.std.specs.Prelude.{◌≡◌, ℕ, ◌<◌, ◌≤◌, true, false, ◌&&◌, ◌||◌, ◌==◌, length, MatchOption, nat_lt};
 ghost use Rattle.base.specs.Lists.{below, some_is};
 ghost use Rattle.floor.specs.Links.{joins_two, pairs_of};
 ghost use Rattle.floor.specs.Survey.{joins_again};
@@ -42,11 +42,19 @@ impl Marks {
     }
 
     fn add(&mut self, pair: (Tile, Tile))
-        ensures { (x y : ℕ) → x < 256 → y < 256 → marked self.new.marks x y ≡ (marked self.old.marks x y || joins_two pair x y) }
+        ensures { (x y : ℕ) → marked self.new.marks x y ≡ (marked self.old.marks x y || joins_two pair x y) }
     {
         let (a, b) = pair;
-        self.marks[usize::from(a)][usize::from(b)] = true;
-        self.marks[usize::from(b)][usize::from(a)] = true;
+        self.mark(a, b);
+        self.mark(b, a);
+    }
+
+    // One way round.
+    fn mark(&mut self, a: Tile, b: Tile)
+        ensures { (x y : ℕ) → marked self.new.marks x y ≡ (marked self.old.marks x y || (a == x && b == y)) }
+    {
+        let row = &mut self.marks[usize::from(a)];
+        row[usize::from(b)] = true;
     }
 
     // The tiles below `size` that are marked as joined to `tile`; none where they are more than six.
