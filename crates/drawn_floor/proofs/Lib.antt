@@ -1,2 +1,3 @@
 mod Marking
 mod Pairs
+mod Tabling

@@ -1,4 +1,5 @@
 ghost use Rattle.std.specs.Prelude.{◌≡◌, ℕ, ◌<◌, ◌≤◌, true, false, ◌&&◌, ◌||◌, ◌==◌, length, MatchOption, nat_lt};
+ghost use Rattle.std.specs.List.{slice_get};
 ghost use Rattle.base.specs.Lists.{below, some_is};
 ghost use Rattle.floor.specs.Links.{joins_two, pairs_of};
 ghost use Rattle.floor.specs.Survey.{joins_again};
@@ -67,7 +68,12 @@ impl Marks {
                 joined.try_push(other).ok()?;
             }
         }
-        Some(array::from_fn(|k| joined.as_slice().get(k).copied()))
+        let joined = joined.as_slice();
+        Some(array::from_fn(
+            |k|
+                ensures { result ≡ slice_get joined.entry.now k }
+            { joined.get(k).copied() },
+        ))
     }
 }
 
