@@ -1,15 +1,16 @@
 -- A row of joined tiles, filled tile by tile, and the table of such rows.
-use Rattle.std.proofs.Common.{◌≡◌, ℕ, zero, suc, ◌+◌, ◌<◌, ◌≤◌, Bool, true, false, ltb, List, [], ◌∷◌, ◌++◌, length, get_or, None, Option, sym, refl, ap, ◌∙◌, inl, inr, arith}
+use Rattle.std.proofs.Common.{◌≡◌, ℕ, zero, suc, ◌+◌, ◌<◌, ◌≤◌, Bool, true, false, eqb, ltb, List, [], ◌∷◌, ◌++◌, length, get_or, set, replicate, Some, None, Option, sym, refl, ap, ◌∙◌, inl, inr, arith}
 use Rattle.std.specs.Array.{IsFromFnResultFrom, IsFromFnResult}
 use Rattle.std.specs.Fn.{Called}
 use Rattle.std.specs.List.{slice_get}
-use Rattle.std.proofs.lemmas.List.{get_or_past, length_push}
-use Rattle.std.proofs.lemmas.Option.{slice_get_past}
-use Rattle.std.proofs.lemmas.Bool.{cases_eq, cases_lt, lt-ltb}
+use Rattle.std.proofs.lemmas.List.{get_or-set_same, get_or-set_other, get_or-replicate, get_or_past, length_push, length-replicate}
+use Rattle.std.proofs.lemmas.Option.{slice_get_past, slice_get_within, get_or_from_slice_get}
+use Rattle.std.proofs.lemmas.Bool.{cases_eq, cases_lt, eq-eqb, lt-ltb}
 use denote.Param.Members.{Mut}
 use Rattle.base.specs.Lists.{below, those}
-use Rattle.base.proofs.Numbers.{those_more_yes, length-those_le}
-use Rattle.drawn_floor.specs.Tables.{Rowed}
+use Rattle.base.proofs.Numbers.{those_more_yes, length-those_le, some_in, those_among}
+use Rattle.base.proofs.Testing.{some_not_none}
+use Rattle.drawn_floor.specs.Tables.{at_place, Rowed, Tabled}
 
 -- a closure that computes h and stays as it is gave h of each index
 module _ {F B : Type 0} (g : Mut F (ℕ × Unit {0}) B) (h : ℕ → B) (f : F) (computes : (i : ℕ) (y : B) (q : F) → Called g f (i, tt) y q → (q ≡ f) × (y ≡ h i)) (ys : List B) where
@@ -39,3 +40,41 @@ module _ (test : ℕ → Bool) where
   those_past m other n passes full low =
       lt-ltb m (length (those test (below n)))
       (omega (arith, ap length (those_more_yes test other passes), length_push (those test (below other)) other, length-those_le test (other + 1) n (omega arith)))
+
+no_places : (m n t k : ℕ) → ◌≡◌ {A = Option ℕ} (at_place (replicate m (replicate n None)) t k) None
+no_places m n t k = elim (cases_lt t m) [
+  | inl l ↦ ap (λ row. get_or row k None) (get_or-replicate m t (replicate n None) [] l) ∙ elim (cases_lt k n) [
+    | inl h ↦ get_or-replicate n k None None h
+    | inr h ↦ get_or_past (replicate n None) k None (omega (arith, length-replicate {A = Option ℕ} n None))
+  ]
+  | inr l ↦ ap (λ row. get_or row k None) (get_or_past (replicate m (replicate n None)) t [] (omega (arith, length-replicate {A = List (Option ℕ)} m (replicate n None))))
+]
+
+-- nothing is listed yet
+pub tabled_none : (joined_to : ℕ → List ℕ) (m n : ℕ) → Tabled 0 joined_to (replicate m (replicate n None))
+tabled_none joined_to m n = (λ t k l. absurd (omega arith), λ t k l. no_places m n t k)
+
+-- the same rows under another name
+pub tabled_as : (n : ℕ) (f g : ℕ → List ℕ) (tiles : List (List (Option ℕ))) → ((t : ℕ) → t < n → f t ≡ g t) → Tabled n f tiles → Tabled n g tiles
+tabled_as n f g tiles same h = (λ t k l. h.0 t k l ∙ ap (λ us. slice_get us k) (same t l), h.1)
+
+-- one more row
+pub tabled_more : (n : ℕ) (joined_to : ℕ → List ℕ) (tiles : List (List (Option ℕ))) (row : List (Option ℕ)) → n < length tiles → Rowed (joined_to n) row → Tabled n joined_to tiles → Tabled (n + 1) joined_to (set tiles n row)
+tabled_more n joined_to tiles row within is h = (
+  λ t k l. elim (cases_eq t n) [
+    | inl e ↦ ap (λ r. get_or r k None) (ap (λ i. get_or (set tiles n row) i []) e ∙ get_or-set_same tiles n row [] within) ∙ is k ∙ ap (λ i. slice_get (joined_to i) k) (sym e)
+    | inr differs ↦ ap (λ r. get_or r k None) (get_or-set_other tiles n t row [] differs) ∙ h.0 t k (omega arith)
+  ],
+  λ t k l. ap (λ r. get_or r k None) (get_or-set_other tiles n t row [] (λ e. omega arith)) ∙ h.1 t k (omega arith),
+)
+
+-- the tiles that are listed are of those below n
+pub tabled_below : (n : ℕ) (test : ℕ → ℕ → Bool) (tiles : List (List (Option ℕ))) → Tabled n (λ t. those (test t) (below n)) tiles → (t k u : ℕ) → at_place tiles t k ≡ Some u → u < n
+tabled_below n test tiles h t k u e = elim (cases_lt t n) [
+  | inl l ↦
+      let us = those (test t) (below n) in
+      let is : slice_get us k ≡ Some u = sym (h.0 t k l) ∙ e in
+      let among = (some_in (eqb u) us 0).1 (k, slice_get_within us k u is, eq-eqb u (get_or us k 0) (sym (get_or_from_slice_get us k u 0 is))) in
+      ((those_among (test t) n u).0 among).0
+  | inr l ↦ absurd (some_not_none e (h.1 t k l))
+]
