@@ -1,11 +1,13 @@
 -- Marks for the tiles that pairs join, one pair after the other.
-use Rattle.std.proofs.Common.{◌≡◌, ℕ, ◌<◌, Bool, true, false, ◌&&◌, ◌||◌, eqb, List, [], ◌∷◌, ◌++◌, length, get_or, set, replicate, sym, refl, ap, ◌∙◌, inl, inr, arith}
+use Rattle.std.proofs.Common.{◌≡◌, ℕ, ◌<◌, Bool, true, false, ◌&&◌, ◌||◌, eqb, ltb, List, [], ◌∷◌, ◌++◌, length, get_or, set, replicate, sym, refl, ap, ◌∙◌, inl, inr, arith}
 use Rattle.std.proofs.lemmas.List.{get_or-set_same, get_or-set_other, get_or-replicate, get_or_past, append-nil, append_assoc, length-replicate}
 use Rattle.std.proofs.lemmas.Bool.{or_cases, or_left, or_right, or_parts, cases_eq, cases_lt, eq-eqb, ne_eqb, true≢false}
 use Rattle.std.proofs.lemmas.Bool.Decides.{nat_tests}
-use Rattle.floor.specs.Links.{joins_two, linked}
-use Rattle.floor.specs.Survey.{joins_again}
-use Rattle.drawn_floor.specs.Marks.{marked, Marked}
+use Rattle.base.specs.Lists.{below, some_is}
+use Rattle.base.proofs.Numbers.{those_same, some_same}
+use Rattle.floor.specs.Links.{joins_two, linked, linked_to}
+use Rattle.floor.specs.Survey.{joins_again, is_crowded}
+use Rattle.drawn_floor.specs.Marks.{marked, Marked, marked_to}
 
 or_false : (a : Bool) → (a || false) ≡ a
 or_false true = refl
@@ -111,3 +113,10 @@ module _ {all met left : List (ℕ × ℕ)} {marks : List (List Bool)} (so_far :
       once = again_next ∙ e;
       here = λ x y. added x y ∙ ap (λ b. b || joins_two p x y) (so_far.here x y) ∙ sym (linked_push met p x y);
     }
+
+module _ (n : ℕ) (ps : List (ℕ × ℕ)) (marks : List (List Bool)) (is : Marked ps marks) where
+  pub marked_linked : (t : ℕ) → marked_to n marks t ≡ linked_to n ps t
+  marked_linked t = those_same (marked marks t) (linked ps t) n (λ u l. is t u)
+
+  pub crowded_linked : some_is (λ t. ltb 6 (length (marked_to n marks t))) (below n) ≡ is_crowded n ps
+  crowded_linked = some_same (λ t. ltb 6 (length (marked_to n marks t))) (λ t. ltb 6 (length (linked_to n ps t))) n (λ t l. ap (λ us. ltb 6 (length us)) (marked_linked t))

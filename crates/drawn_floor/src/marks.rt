@@ -1,4 +1,4 @@
-ghost use Rattle.std.specs.Prelude.{◌≡◌, ℕ, ◌<◌, ◌≤◌, true, false, ◌&&◌, ◌||◌, ◌==◌, length, MatchOption, nat_lt};
+ghost use Rattle.std.specs.Prelude.{◌≡◌, ℕ, ◌<◌, ◌≤◌, true, false, ◌&&◌, ◌||◌, ◌==◌, length, IfSome, MatchOption, nat_lt};
 ghost use Rattle.std.specs.List.{slice_get};
 ghost use Rattle.base.specs.Lists.{below, some_is};
 ghost use Rattle.floor.specs.Links.{joins_two, pairs_of};
@@ -81,7 +81,8 @@ impl JoinedTiles {
     // The tiles that are marked as joined, or none where they are more than six to some tile.
     pub(crate) fn marked(size: Tile, marks: &Marks) -> Option<JoinedTiles>
         requires { 3 ≤ size }
-        ensures { MatchOption result (some_is (λ t. nat_lt 6 (length (marked_to size marks.now.marks t))) (below size) ≡ true) (λ j. (some_is (λ t. nat_lt 6 (length (marked_to size marks.now.marks t))) (below size) ≡ false) × (j.size ≡ size) × Tabled size (marked_to size marks.now.marks) j.tiles) }
+        ensures crowded { MatchOption result (some_is (λ t. nat_lt 6 (length (marked_to size marks.now.marks t))) (below size) ≡ true) (λ _. some_is (λ t. nat_lt 6 (length (marked_to size marks.now.marks t))) (below size) ≡ false) }
+        ensures made { IfSome result (λ j. (j.size ≡ size) × Tabled size (marked_to size marks.now.marks) j.tiles) }
     {
         let mut tiles = [[None; MOST]; TILES];
         for tile in 0..size {

@@ -16,7 +16,7 @@ returns-in_err-tiles c =
     let n = c.args.size in
     let crowded : some_is (λ t. ltb 6 (length (marked_to n c.args.marks.now.marks t))) (below n) ≡ true =
     (some_below (λ t. ltb 6 (length (marked_to n c.args.marks.now.marks t))) n).1 (c.loop-tile.tile, c.loop-tile-test.true, c.in_err-tiles.ensures) in
-    rw c.from_residual.ensures crowded
+    record { crowded = rw c.from_residual.ensures crowded; made = rw c.from_residual.ensures tt }
 
 pub loop-tile-preserved : goal.loop-tile-preserved
 loop-tile-preserved c =
@@ -43,8 +43,9 @@ pub returns : goal.returns
 returns c =
     let n = c.args.size in
     let all : c.loop-tile.tile ≡ n = omega arith in
-    let joined_to = marked_to n c.args.marks.now.marks in (
-      false_by (some_is (λ t. ltb 6 (length (joined_to t))) (below n)) (λ e. let h = (some_below (λ t. ltb 6 (length (joined_to t))) n).0 e in both_ways (ltb 6 (length (joined_to h.0))) (c.loop-tile.invariant.2 h.0 (omega (arith, h.1))) h.2),
-      refl,
-      subst (λ m. Tabled m joined_to c.loop-tile.tiles) all c.loop-tile.invariant.0,
-    )
+    let joined_to = marked_to n c.args.marks.now.marks in
+    record {
+      crowded = false_by (some_is (λ t. ltb 6 (length (joined_to t))) (below n))
+          (λ e. let h = (some_below (λ t. ltb 6 (length (joined_to t))) n).0 e in both_ways (ltb 6 (length (joined_to h.0))) (c.loop-tile.invariant.2 h.0 (omega (arith, h.1))) h.2);
+      made = (refl, subst (λ m. Tabled m joined_to c.loop-tile.tiles) all c.loop-tile.invariant.0);
+    }
