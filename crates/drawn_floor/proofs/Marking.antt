@@ -1,46 +1,28 @@
 -- Marks for the tiles that pairs join, one pair after the other.
-use Rattle.std.proofs.Common.{◌≡◌, ℕ, ◌<◌, Bool, true, false, ◌&&◌, ◌||◌, eqb, ltb, List, [], ◌∷◌, ◌++◌, length, get_or, set, replicate, sym, refl, ap, ◌∙◌, inl, inr, arith}
+use Rattle.std.proofs.Common.{◌≡◌, ℕ, ◌<◌, Bool, true, false, ◌&&◌, ◌||◌, eqb, List, [], ◌∷◌, ◌++◌, length, get_or, set, replicate, sym, refl, ap, ◌∙◌, inl, inr, arith}
+use Rattle.std.proofs.Math.Bool.{or-false, or-true, or_assoc}
 use Rattle.std.proofs.lemmas.List.{get_or-set_same, get_or-set_other, get_or-replicate, get_or_past, append-nil, append_assoc, length-replicate}
-use Rattle.std.proofs.lemmas.Bool.{or_cases, or_left, or_right, or_parts, cases_eq, cases_lt, eq-eqb, ne_eqb, true≢false}
+use Rattle.std.proofs.lemmas.Bool.{or_cases, or_left, or_right, or_parts, cases_eq, cases_lt, true≢false}
 use Rattle.std.proofs.lemmas.Bool.Decides.{nat_tests}
-use Rattle.base.specs.Lists.{below, some_is}
-use Rattle.base.proofs.Numbers.{those_same, some_same}
+use Rattle.base.specs.Lists.{below, those}
 use Rattle.floor.specs.Links.{joins_two, linked, linked_to}
-use Rattle.floor.specs.Survey.{joins_again, is_crowded}
+use Rattle.floor.specs.Survey.{joins_again}
 use Rattle.drawn_floor.specs.Marks.{marked, Marked, marked_to}
-
-or_false : (a : Bool) → (a || false) ≡ a
-or_false true = refl
-or_false false = refl
-
-or_true : (a : Bool) → (a || true) ≡ true
-or_true true = refl
-or_true false = refl
-
-or_assoc : (a b c : Bool) → (a || (b || c)) ≡ ((a || b) || c)
-or_assoc true b c = refl
-or_assoc false b c = refl
 
 -- one place of a row is set
 row_set : (row : List Bool) (b y : ℕ) → b < length row → get_or (set row b true) y false ≡ (get_or row y false || eqb b y)
-row_set row b y lb = elim (cases_eq y b) [
-  | inl e ↦ ap (λ i. get_or (set row b true) i false) e ∙ get_or-set_same row b true false lb
-      ∙ sym (ap (λ t. get_or row y false || t) (eq-eqb b y (sym e)) ∙ or_true (get_or row y false))
-  | inr n ↦ get_or-set_other row b y true false n ∙ sym (ap (λ t. get_or row y false || t) (ne_eqb b y (λ e. n (sym e))) ∙ or_false (get_or row y false))
-]
+row_set row b y lb = elim (cases_eq y b)
+    [ inl e ↦ grind (arith, nat_tests, get_or-set_same row b true false lb, or-true) | inr n ↦ grind (arith, nat_tests, get_or-set_other row b y true false n, or-false) ]
 
 -- one place of one row is set
 pub marked_set : (marks : List (List Bool)) (a b : ℕ) → a < length marks → b < length (get_or marks a []) → (x y : ℕ)
     → marked (set marks a (set (get_or marks a []) b true)) x y ≡ (marked marks x y || (eqb a x && eqb b y))
-marked_set marks a b la lb x y = elim (cases_eq x a) [
-  | inl e ↦ ap (λ i. marked (set marks a (set (get_or marks a []) b true)) i y) e
-      ∙ ap (λ row. get_or row y false) (get_or-set_same marks a (set (get_or marks a []) b true) [] la)
-      ∙ row_set (get_or marks a []) b y lb
-      ∙ ap (λ i. get_or (get_or marks i []) y false || eqb b y) (sym e)
-      ∙ ap (λ t. marked marks x y || (t && eqb b y)) (sym (eq-eqb a x (sym e)))
-  | inr n ↦ ap (λ row. get_or row y false) (get_or-set_other marks a x (set (get_or marks a []) b true) [] n)
-      ∙ sym (ap (λ t. marked marks x y || (t && eqb b y)) (ne_eqb a x (λ e. n (sym e))) ∙ or_false (marked marks x y))
-]
+marked_set marks a b la lb x y =
+    let row = set (get_or marks a []) b true in
+    elim (cases_eq x a) [
+      | inl e ↦ grind (arith, nat_tests, get_or-set_same marks a row [] la, row_set (get_or marks a []) b y lb)
+      | inr n ↦ grind (arith, nat_tests, get_or-set_other marks a x row [] n, or-false)
+    ]
 
 -- no mark at all
 unmarked : (m n : ℕ) → Marked [] (replicate m (replicate n false))
@@ -53,8 +35,8 @@ unmarked m n a b = elim (cases_lt a m) [
 ]
 
 linked_push : (ps : List (ℕ × ℕ)) (p : ℕ × ℕ) (a b : ℕ) → linked (ps ++ p ∷ []) a b ≡ (linked ps a b || joins_two p a b)
-linked_push [] p a b = or_false (joins_two p a b)
-linked_push (q ∷ qs) p a b = ap (λ r. joins_two q a b || r) (linked_push qs p a b) ∙ or_assoc (joins_two q a b) (linked qs a b) (joins_two p a b)
+linked_push [] p a b = or-false (joins_two p a b)
+linked_push (q ∷ qs) p a b = ap (λ r. joins_two q a b || r) (linked_push qs p a b) ∙ sym (or_assoc (joins_two q a b) (linked qs a b) (joins_two p a b))
 
 -- two pairs join the same tiles whichever is asked of the other
 same_two : (p q : ℕ × ℕ) → joins_two p q.0 q.1 ≡ joins_two q p.0 p.1
@@ -114,9 +96,6 @@ module _ {all met left : List (ℕ × ℕ)} {marks : List (List Bool)} (so_far :
       here = λ x y. added x y ∙ ap (λ b. b || joins_two p x y) (so_far.here x y) ∙ sym (linked_push met p x y);
     }
 
-module _ (n : ℕ) (ps : List (ℕ × ℕ)) (marks : List (List Bool)) (is : Marked ps marks) where
-  pub marked_linked : (t : ℕ) → marked_to n marks t ≡ linked_to n ps t
-  marked_linked t = those_same (marked marks t) (linked ps t) n (λ u l. is t u)
-
-  pub crowded_linked : some_is (λ t. ltb 6 (length (marked_to n marks t))) (below n) ≡ is_crowded n ps
-  crowded_linked = some_same (λ t. ltb 6 (length (marked_to n marks t))) (λ t. ltb 6 (length (linked_to n ps t))) n (λ t l. ap (λ us. ltb 6 (length us)) (marked_linked t))
+-- the tiles that are marked are those that the pairs join
+pub marked_linked : (n : ℕ) (ps : List (ℕ × ℕ)) (marks : List (List Bool)) → Marked ps marks → marked_to n marks ≡ linked_to n ps
+marked_linked n ps marks is = λ i t. those (λ u. is t u i) (below n)

@@ -1,5 +1,5 @@
 -- Marks for joined tiles: a row of marks for each tile.
-use Rattle.std.specs.Prelude.{◌≡◌, ℕ, ◌<◌, Bool, false, List, [], slice_index_or}
+use Rattle.std.specs.Prelude.{◌≡◌, ℕ, Bool, false, List, [], slice_index_or}
 use Rattle.base.specs.Lists.{below, those}
 use Rattle.floor.specs.Links.{linked}
 

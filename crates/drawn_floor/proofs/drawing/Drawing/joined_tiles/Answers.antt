@@ -1,12 +1,11 @@
-use Rattle.std.proofs.Common.{◌≡◌, ◌%◌, ◌≤◌, true, false, ◌||◌, eqb, ltb, [], ◌∷◌, length, IfOk, sym, ap, ◌∙◌, subst, arith, MatchOption}
+use Rattle.std.proofs.Common.{◌≡◌, ◌%◌, ◌≤◌, true, false, ◌||◌, eqb, ltb, [], ◌∷◌, length, sym, ◌∙◌, subst, arith, MatchOption}
 use Rattle.std.proofs.lemmas.Bool.{or_from, le-ltb, ne_eqb}
-use Rattle.std.specs.Result.{result_err}
+use Rattle.base.specs.Lists.{below, some_is}
 use Rattle.base.proofs.Testing.{all_passed, passed_on, refused_by}
 use Rattle.base.specs.declared.refusal.Refusal.TheVariants.{Size, Ragged, Stranger, SelfPair, Twice, Crowded}
 use Rattle.floor.specs.Links.{pairs_of}
 use Rattle.floor.specs.Survey.{names_stranger, names_itself, joins_again, is_crowded}
-use Rattle.drawn_floor.specs.Marks.{Marked}
-use Rattle.drawn_floor.proofs.Marking.{crowded_linked}
+use Rattle.drawn_floor.proofs.Marking.{marked_linked}
 use Rattle.drawn_floor.proofs.drawing.Drawing.joined_tiles.Goals as goal
 
 pub returns-clause-answer : goal.returns-clause-answer
@@ -24,5 +23,5 @@ returns-clause-answer c =
       or_from (ltb n 3) (ltb 255 n) (le-ltb n 3 c.if-self-lt3.false) (le-ltb 255 n small),
       (ne_eqb (length links % 2) 1 c.if-self-eq1.false, (sym c.names_stranger.ensures ∙ c.if-names_stranger.false, (sym c.names_itself.ensures ∙ c.if-names_itself.false, (told.0, tt)))),
     ) in
-    let crowded = subst (λ b. MatchOption o (b ≡ true) (λ _. b ≡ false)) (crowded_linked n ps marks told.1) c.marked.ensures.crowded in
-    ap result_err c.ok_or-2.ensures.value ∙ refused_by o (is_crowded n ps) Crowded crowded ∙ sym (passed_on tests ((is_crowded n ps, Crowded) ∷ []) pass)
+    let crowded = subst (λ joined_to. MatchOption o (some_is (λ t. ltb 6 (length (joined_to t))) (below n) ≡ true) (λ _. some_is (λ t. ltb 6 (length (joined_to t))) (below n) ≡ false)) (marked_linked n ps marks told.1) c.marked.ensures.crowded in
+    rw c.ok_or-2.ensures.value (refused_by o (is_crowded n ps) Crowded crowded ∙ sym (passed_on tests ((is_crowded n ps, Crowded) ∷ []) pass))

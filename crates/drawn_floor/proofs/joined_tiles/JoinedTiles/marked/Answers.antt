@@ -1,4 +1,4 @@
-use Rattle.std.proofs.Common.{◌≡◌, ◌+◌, ◌<◌, true, false, ltb, length, set, sym, refl, ap, ◌∙◌, subst, arith, length-set, below_more}
+use Rattle.std.proofs.Common.{◌≡◌, ◌+◌, ◌<◌, true, ltb, length, set, sym, refl, ◌∙◌, subst, arith, length-set, below_more}
 use Rattle.std.proofs.lemmas.Bool.{both_ways}
 use Rattle.base.specs.Lists.{below, some_is}
 use Rattle.base.proofs.Ascending.{false_by}

@@ -1,4 +1,4 @@
-use Rattle.std.proofs.Common.{◌≡◌, ◌<◌, [], length, get_or, arith}
+use Rattle.std.proofs.Common.{arith}
 use Rattle.drawn_floor.proofs.Marking.{marked_set}
 use Rattle.drawn_floor.proofs.marks.Marks.mark.Goals as goal
 

@@ -1,6 +1,6 @@
-use Rattle.std.proofs.Common.{sym, ap, ◌∙◌, subst}
+use Rattle.std.proofs.Common.{sym, ap, ◌∙◌}
 use Rattle.floor.specs.Links.{pairs_of}
-use Rattle.drawn_floor.proofs.Marking.{Marking, marking_start, marking_met, marking_more, marking_end}
+use Rattle.drawn_floor.proofs.Marking.{marking_start, marking_met, marking_more, marking_end}
 use Rattle.drawn_floor.proofs.marks.Marks.of.Goals as goal
 
 pub loop-pair-init : goal.loop-pair-init
