@@ -1,13 +1,14 @@
 -- Marks for the tiles that pairs join, one pair after the other.
 use Rattle.std.proofs.Common.{◌≡◌, ℕ, ◌<◌, Bool, true, false, ◌&&◌, ◌||◌, eqb, List, [], ◌∷◌, ◌++◌, length, get_or, set, replicate, sym, refl, ap, ◌∙◌, inl, inr, arith}
 use Rattle.std.proofs.Math.Bool.{or-false, or-true, or_assoc}
-use Rattle.std.proofs.lemmas.List.{get_or-set_same, get_or-set_other, get_or-replicate, get_or_past, append-nil, append_assoc, length-replicate}
-use Rattle.std.proofs.lemmas.Bool.{or_cases, or_left, or_right, or_parts, cases_eq, cases_lt, true≢false}
+use Rattle.std.proofs.lemmas.List.{get_or-set_same, get_or-set_other, append-nil, append_assoc}
+use Rattle.std.proofs.lemmas.Bool.{or_cases, or_left, or_right, or_parts, cases_eq, true≢false}
 use Rattle.std.proofs.lemmas.Bool.Decides.{nat_tests}
 use Rattle.base.specs.Lists.{below, those}
 use Rattle.floor.specs.Links.{joins_two, linked, linked_to}
 use Rattle.floor.specs.Survey.{joins_again}
 use Rattle.drawn_floor.specs.Marks.{marked, Marked, marked_to}
+use Rattle.drawn_floor.proofs.Tabling.{same_rows}
 
 -- one place of a row is set
 row_set : (row : List Bool) (b y : ℕ) → b < length row → get_or (set row b true) y false ≡ (get_or row y false || eqb b y)
@@ -23,16 +24,6 @@ marked_set marks a b la lb x y =
       | inl e ↦ grind (arith, nat_tests, get_or-set_same marks a row [] la, row_set (get_or marks a []) b y lb)
       | inr n ↦ grind (arith, nat_tests, get_or-set_other marks a x row [] n, or-false)
     ]
-
--- no mark at all
-unmarked : (m n : ℕ) → Marked [] (replicate m (replicate n false))
-unmarked m n a b = elim (cases_lt a m) [
-  | inl l ↦ ap (λ row. get_or row b false) (get_or-replicate m a (replicate n false) [] l) ∙ elim (cases_lt b n) [
-    | inl k ↦ get_or-replicate n b false false k
-    | inr k ↦ get_or_past (replicate n false) b false (omega (arith, length-replicate n false))
-  ]
-  | inr l ↦ ap (λ row. get_or row b false) (get_or_past (replicate m (replicate n false)) a [] (omega (arith, length-replicate m (replicate n false))))
-]
 
 linked_push : (ps : List (ℕ × ℕ)) (p : ℕ × ℕ) (a b : ℕ) → linked (ps ++ p ∷ []) a b ≡ (linked ps a b || joins_two p a b)
 linked_push [] p a b = or-false (joins_two p a b)
@@ -70,7 +61,7 @@ pub record Marking (all met left : List (ℕ × ℕ)) (marks : List (List Bool))
   pub here : Marked met marks
 
 pub marking_start : (all left : List (ℕ × ℕ)) (m n : ℕ) → left ≡ all → Marking all [] left (replicate m (replicate n false))
-marking_start all left m n e = record { whole = e; once = refl; here = unmarked m n }
+marking_start all left m n e = record { whole = e; once = refl; here = same_rows m n false }
 
 module _ {all met left : List (ℕ × ℕ)} {marks : List (List Bool)} (so_far : Marking all met left marks) where
   pub marking_end : left ≡ [] → (joins_again all ≡ false) × Marked all marks

@@ -41,22 +41,19 @@ module _ (test : ℕ → Bool) where
       lt-ltb m (length (those test (below n)))
       (omega (arith, ap length (those_more_yes test other passes), length_push (those test (below other)) other, length-those_le test (other + 1) n (omega arith)))
 
-no_places : (m n t k : ℕ) → ◌≡◌ {A = Option ℕ} (at_place (replicate m (replicate n None)) t k) None
-no_places m n t k = elim (cases_lt t m) [
-  | inl l ↦ ap (λ row. get_or row k None) (get_or-replicate m t (replicate n None) [] l) ∙ elim (cases_lt k n) [
-    | inl h ↦ get_or-replicate n k None None h
-    | inr h ↦ get_or_past (replicate n None) k None (omega (arith, length-replicate {A = Option ℕ} n None))
-  ]
-  | inr l ↦ ap (λ row. get_or row k None) (get_or_past (replicate m (replicate n None)) t [] (omega (arith, length-replicate {A = List (Option ℕ)} m (replicate n None))))
+one_value : {X : Type 0} (n i : ℕ) (d : X) → get_or (replicate n d) i d ≡ d
+one_value n i d = elim (cases_lt i n) [ inl l ↦ get_or-replicate n i d d l | inr l ↦ get_or_past (replicate n d) i d (omega (arith, length-replicate n d)) ]
+
+-- rows that hold one value alone, also past their ends
+pub same_rows : {X : Type 0} (m n : ℕ) (d : X) (a b : ℕ) → get_or (get_or (replicate m (replicate n d)) a []) b d ≡ d
+same_rows m n d a b = elim (cases_lt a m) [
+  | inl l ↦ ap (λ row. get_or row b d) (get_or-replicate m a (replicate n d) [] l) ∙ one_value n b d
+  | inr l ↦ ap (λ row. get_or row b d) (get_or_past (replicate m (replicate n d)) a [] (omega (arith, length-replicate m (replicate n d))))
 ]
 
 -- nothing is listed yet
 pub tabled_none : (joined_to : ℕ → List ℕ) (m n : ℕ) → Tabled 0 joined_to (replicate m (replicate n None))
-tabled_none joined_to m n = (λ t k l. absurd (omega arith), λ t k l. no_places m n t k)
-
--- the same rows under another name
-pub tabled_as : (n : ℕ) (f g : ℕ → List ℕ) (tiles : List (List (Option ℕ))) → ((t : ℕ) → t < n → f t ≡ g t) → Tabled n f tiles → Tabled n g tiles
-tabled_as n f g tiles same h = (λ t k l. h.0 t k l ∙ ap (λ us. slice_get us k) (same t l), h.1)
+tabled_none joined_to m n = (λ t k l. absurd (omega arith), λ t k l. same_rows m n None t k)
 
 -- one more row
 pub tabled_more : (n : ℕ) (joined_to : ℕ → List ℕ) (tiles : List (List (Option ℕ))) (row : List (Option ℕ)) → n < length tiles → Rowed (joined_to n) row → Tabled n joined_to tiles → Tabled (n + 1) joined_to (set tiles n row)
