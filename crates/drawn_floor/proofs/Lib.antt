@@ -1,6 +1,9 @@
 mod Adopting
 mod Finding
+mod Marking
 mod Measuring
+mod Pairs
 mod Rows
 mod Spreading
+mod Tabling
 mod Turns

@@ -1,4 +1,5 @@
-ghost use Rattle.std.specs.Prelude.{◌≡◌, ℕ, ◌<◌, ◌≤◌, true, false, ◌||◌, length, MatchOption, nat_lt};
+ghost use Rattle.std.specs.Prelude.{◌≡◌, ℕ, ◌<◌, ◌≤◌, true, false, ◌&&◌, ◌||◌, ◌==◌, length, IfSome, MatchOption, nat_lt};
+ghost use Rattle.std.specs.List.{slice_get};
 ghost use Rattle.base.specs.Lists.{below, some_is};
 ghost use Rattle.floor.specs.Links.{joins_two, pairs_of};
 ghost use Rattle.floor.specs.Survey.{joins_again};
@@ -42,11 +43,19 @@ impl Marks {
     }
 
     fn add(&mut self, pair: (Tile, Tile))
-        ensures { (x y : ℕ) → x < 256 → y < 256 → marked self.new.marks x y ≡ (marked self.old.marks x y || joins_two pair x y) }
+        ensures { (x y : ℕ) → marked self.new.marks x y ≡ (marked self.old.marks x y || joins_two pair x y) }
     {
         let (a, b) = pair;
-        self.marks[usize::from(a)][usize::from(b)] = true;
-        self.marks[usize::from(b)][usize::from(a)] = true;
+        self.mark(a, b);
+        self.mark(b, a);
+    }
+
+    // One way round.
+    fn mark(&mut self, a: Tile, b: Tile)
+        ensures { (x y : ℕ) → marked self.new.marks x y ≡ (marked self.old.marks x y || (a == x && b == y)) }
+    {
+        let row = &mut self.marks[usize::from(a)];
+        row[usize::from(b)] = true;
     }
 
     // The tiles below `size` that are marked as joined to `tile`; none where they are more than six.
@@ -59,7 +68,12 @@ impl Marks {
                 joined.try_push(other).ok()?;
             }
         }
-        Some(array::from_fn(|k| joined.as_slice().get(k).copied()))
+        let joined = joined.as_slice();
+        Some(array::from_fn(
+            |k|
+                ensures { result ≡ slice_get joined.entry.now k }
+            { joined.get(k).copied() },
+        ))
     }
 }
 
@@ -67,7 +81,8 @@ impl JoinedTiles {
     // The tiles that are marked as joined, or none where they are more than six to some tile.
     pub(crate) fn marked(size: Tile, marks: &Marks) -> Option<JoinedTiles>
         requires { 3 ≤ size }
-        ensures { MatchOption result (some_is (λ t. nat_lt 6 (length (marked_to size marks.now.marks t))) (below size) ≡ true) (λ j. (some_is (λ t. nat_lt 6 (length (marked_to size marks.now.marks t))) (below size) ≡ false) × (j.size ≡ size) × Tabled size (marked_to size marks.now.marks) j.tiles) }
+        ensures crowded { MatchOption result (some_is (λ t. nat_lt 6 (length (marked_to size marks.now.marks t))) (below size) ≡ true) (λ _. some_is (λ t. nat_lt 6 (length (marked_to size marks.now.marks t))) (below size) ≡ false) }
+        ensures made { IfSome result (λ j. (j.size ≡ size) × Tabled size (marked_to size marks.now.marks) j.tiles) }
     {
         let mut tiles = [[None; MOST]; TILES];
         for tile in 0..size {
