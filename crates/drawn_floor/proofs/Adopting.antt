@@ -1,18 +1,16 @@
 -- When size, links and numbers stand as a granted survey leaves them, said of the table of joined tiles.
-use Rattle.std.proofs.Common.{◌≡◌, ℕ, ◌+◌, ◌*◌, ◌/◌, ◌%◌, ◌<◌, ◌≤◌, true, false, max, List, [], ◌∷◌, length, get_or, take, IfOk, IsOk, Some, None, Ok, Err, Option, Result, sym, refl, ap, ◌∙◌, subst, inl, arith}
+use Rattle.std.proofs.Common.{◌≡◌, ℕ, ◌+◌, ◌*◌, ◌<◌, ◌≤◌, true, false, max, List, [], ◌∷◌, length, get_or, take, IfOk, IsOk, Some, None, Ok, Err, Option, Result, sym, refl, ap, ◌∙◌, subst, arith}
 use Rattle.std.specs.List.{slice_get, fold, reduce}
 use Rattle.std.specs.Option.{option_map, unwrap_or}
 use Rattle.std.specs.Result.{result_ok, result_err}
-use Rattle.std.proofs.lemmas.Nat.{div-add-mod', div_below, mod_below, div-mul-add, mod-mul-add}
-use Rattle.std.proofs.lemmas.Bool.{eqb-true, eq-eqb, false≢true}
 use Rattle.base.proofs.Ascending.{false_by}
-use Rattle.base.proofs.Testing.{passed_all, passed_both, some_not_none}
+use Rattle.base.proofs.Testing.{some_not_none}
 use Rattle.base.specs.Lists.{below, those, greatest}
 use Rattle.base.specs.declared.refusal.Refusal.{Refusal}
 use Rattle.floor.specs.Drawn.{drawn_model, stands_surveyed}
 use Rattle.floor.specs.Floors.{joined_to}
-use Rattle.floor.specs.Links.{pairs_of, linked, linked_to}
-use Rattle.floor.specs.Survey.{link_tests, walk_tests, drawing_refusal, distances}
+use Rattle.floor.specs.Links.{pairs_of, linked_to}
+use Rattle.floor.specs.Survey.{drawing_refusal, distances}
 use Rattle.floor.specs.Walks.{Shortest, within, distance}
 use Rattle.floor.proofs.Standing.{stands_decides, granted_parts, standing_pull}
 use Rattle.floor.proofs.Walking.{shortest_once}

@@ -1,5 +1,5 @@
 -- A table of distances, row after row, and what a survey that writes it answers.
-use Rattle.std.proofs.Common.{◌≡◌, ℕ, ◌+◌, ◌-◌, ◌*◌, ◌/◌, ◌%◌, ◌<◌, ◌≤◌, Bool, ltb, List, [], ◌∷◌, ◌++◌, length, get_or, take, drop, Some, None, Option, sym, ap, ◌∙◌, subst, inl, inr, add-mul, arith}
+use Rattle.std.proofs.Common.{◌≡◌, ℕ, ◌+◌, ◌-◌, ◌*◌, ◌/◌, ◌%◌, ◌<◌, ◌≤◌, Bool, ltb, List, [], ◌∷◌, ◌++◌, length, get_or, take, drop, Some, None, Option, sym, ap, ◌∙◌, subst, add-mul, arith}
 use Rattle.std.proofs.lemmas.Nat.{mul-le, mod_below, div_below, div-add-mod'}
 use Rattle.std.proofs.lemmas.List.{ext_get_or, get_or-take, get_or-drop, length-take-le, take-append-drop}
 use Rattle.std.proofs.lemmas.Bool.{lt-ltb, le-ltb}
@@ -12,7 +12,7 @@ use Rattle.floor.specs.Links.{pairs_of, linked, linked_to}
 use Rattle.floor.specs.Survey.{link_tests, walk_tests, drawing_refusal, survey_refusal, distances, after_survey}
 use Rattle.floor.specs.Walks.{Shortest, distance}
 use Rattle.floor.proofs.SurveyFacts.{LinksPass, links_pass, distance_drawn, distance_place, length-distances, surveyed}
-use Rattle.floor.proofs.Walking.{shortest_along, shortest_once}
+use Rattle.floor.proofs.Walking.{shortest_along}
 use Rattle.drawn_floor.specs.Searches.{Passes}
 use Rattle.drawn_floor.specs.Tables.{Tabled}
 use Rattle.drawn_floor.proofs.Finding.{to_linked, from_linked}

@@ -1,11 +1,11 @@
 -- How what a search meets adds up, tile after tile and layer after layer, and why it has found all walks when it ends.
-use Rattle.std.proofs.Common.{◌≡◌, ℕ, zero, suc, ◌+◌, ◌-◌, ◌<◌, ◌≤◌, ◌⊎◌, List, [], ◌∷◌, ◌++◌, length, get_or, set, replicate, Bool, false, IsSome, is_some, Some, None, Option, sym, refl, ap, ◌∙◌, subst, inl, inr, arith, length-set}
+use Rattle.std.proofs.Common.{◌≡◌, ℕ, zero, suc, ◌+◌, ◌-◌, ◌<◌, ◌⊎◌, List, [], ◌∷◌, ◌++◌, length, get_or, set, replicate, false, IsSome, is_some, Some, None, Option, sym, refl, ap, ◌∙◌, subst, inl, inr, arith, length-set}
 use Rattle.std.proofs.lemmas.List.{get_or-set_same, get_or-set_other, get_or_append_left, get_or-append_right, length-append, append-nil, append_assoc, get_or-replicate, get_or_past, length-replicate}
 use Rattle.std.proofs.lemmas.Bool.{cases_eq, cases_lt, false≢true}
 use Rattle.base.proofs.Testing.{some_not_none, cases_option}
-use Rattle.floor.specs.Walks.{Walk, stay, step, Shortest}
+use Rattle.floor.specs.Walks.{Walk, stay, step}
 use Rattle.drawn_floor.specs.Searches.{Found, Filled}
-use Rattle.drawn_floor.specs.Spreading.{unmet, steps_of, Spreads, Meets, HasRoom, Behind, Layered}
+use Rattle.drawn_floor.specs.Spreading.{unmet, steps_of, Spreads, Meets, Behind, Layered}
 use Rattle.drawn_floor.specs.declared.search.Search.{Search}
 
 met_by : {X : Type 0} {o : Option X} {x : X} → o ≡ Some x → IsSome o
@@ -152,10 +152,10 @@ module _ (Goes : ℕ → ℕ → Type 0) (g : ℕ) where
   pub layered_begun : (s : Search) → s.far ≡ 0 → Spreads (λ u. u ≡ g) 0 (replicate 256 None) s.steps s.layer.items → Layered Goes g s
   layered_begun s far spread =
       let meets : (t e : ℕ) → steps_of s.steps t ≡ Some e → (e ≡ 0) × (t ≡ g) = λ t e h.
-        elim (spread.new t e h) [
-          | inl old ↦ absurd (some_not_none old (none_met 256 t))
-          | inr new ↦ (new.1, new.2)
-        ] in
+      elim (spread.new t e h) [
+        | inl old ↦ absurd (some_not_none old (none_met 256 t))
+        | inr new ↦ (new.1, new.2)
+      ] in
       record {
         long = spread.long ∙ length-replicate {A = Option ℕ} 256 None;
         met = λ t e h. let m = meets t e h in (record { walk = subst (λ k. Walk Goes t g k) (sym m.0) (subst (λ x. Walk Goes x g 0) (sym m.1) stay); least = λ k w. omega (arith, m.0) }, omega (arith, m.0));

@@ -10,7 +10,7 @@ use denote.Param.Members.{Mut}
 use Rattle.base.specs.Lists.{below, those}
 use Rattle.base.proofs.Numbers.{those_more_yes, length-those_le, some_in, those_among}
 use Rattle.base.proofs.Testing.{some_not_none}
-use Rattle.drawn_floor.specs.Tables.{at_place, Rowed, Tabled}
+use Rattle.drawn_floor.specs.Tables.{at_place, Rowed, SixPlaces, Tabled}
 
 -- a closure that computes h and stays as it is gave h of each index
 module _ {F B : Type 0} (g : Mut F (ℕ × Unit {0}) B) (h : ℕ → B) (f : F) (computes : (i : ℕ) (y : B) (q : F) → Called g f (i, tt) y q → (q ≡ f) × (y ≡ h i)) (ys : List B) where
@@ -26,9 +26,14 @@ module _ {F B : Type 0} (g : Mut F (ℕ × Unit {0}) B) (h : ℕ → B) (f : F) 
   pub from_fn_at : (n k : ℕ) (d : B) → IsFromFnResult g f ys n → k < n → get_or ys k d ≡ h k
   from_fn_at n k d r l = from_fn_from f 0 n k d refl r.each (omega arith) (omega arith)
 
-pub rowed : (us : List ℕ) (row : List (Option ℕ)) (n : ℕ) → length row ≡ n → length us ≤ n → ((k : ℕ) → k < n → get_or row k None ≡ slice_get us k) → Rowed us row
-rowed us row n long few same k = elim (cases_lt k n)
-    [ inl l ↦ same k l | inr l ↦ get_or_past row k None (omega arith) ∙ sym (slice_get_past us k (omega arith)) ]
+pub rowed : (us : List ℕ) (row : List (Option ℕ)) → length row ≡ 6 → length us ≤ 6 → ((k : ℕ) → k < 6 → get_or row k None ≡ slice_get us k) → Rowed us row
+rowed us row long few same = (
+  long,
+  λ k. elim (cases_lt k 6) [
+    | inl l ↦ same k l
+    | inr l ↦ get_or_past row k None (omega arith) ∙ sym (slice_get_past us k (omega arith))
+  ],
+)
 
 module _ (test : ℕ → Bool) where
   pub those_none : those test (below 0) ≡ []
@@ -55,11 +60,20 @@ same_rows m n d a b = elim (cases_lt a m) [
 pub tabled_none : (joined_to : ℕ → List ℕ) (m n : ℕ) → Tabled 0 joined_to (replicate m (replicate n None))
 tabled_none joined_to m n = (λ t k l. absurd (omega arith), λ t k l. same_rows m n None t k)
 
+pub six_none : SixPlaces (replicate 256 (replicate 6 None))
+six_none t l = ap length (get_or-replicate 256 t (replicate 6 None) [] l) ∙ length-replicate {A = Option ℕ} 6 None
+
+pub six_more : (n : ℕ) (tiles : List (List (Option ℕ))) (row : List (Option ℕ)) → n < length tiles → length row ≡ 6 → SixPlaces tiles → SixPlaces (set tiles n row)
+six_more n tiles row within six all t l = elim (cases_eq t n) [
+  | inl e ↦ ap (λ i. length (get_or (set tiles n row) i [])) e ∙ ap length (get_or-set_same tiles n row [] within) ∙ six
+  | inr differs ↦ ap length (get_or-set_other tiles n t row [] differs) ∙ all t l
+]
+
 -- one more row
 pub tabled_more : (n : ℕ) (joined_to : ℕ → List ℕ) (tiles : List (List (Option ℕ))) (row : List (Option ℕ)) → n < length tiles → Rowed (joined_to n) row → Tabled n joined_to tiles → Tabled (n + 1) joined_to (set tiles n row)
 tabled_more n joined_to tiles row within is h = (
   λ t k l. elim (cases_eq t n) [
-    | inl e ↦ ap (λ r. get_or r k None) (ap (λ i. get_or (set tiles n row) i []) e ∙ get_or-set_same tiles n row [] within) ∙ is k ∙ ap (λ i. slice_get (joined_to i) k) (sym e)
+    | inl e ↦ ap (λ r. get_or r k None) (ap (λ i. get_or (set tiles n row) i []) e ∙ get_or-set_same tiles n row [] within) ∙ is.1 k ∙ ap (λ i. slice_get (joined_to i) k) (sym e)
     | inr differs ↦ ap (λ r. get_or r k None) (get_or-set_other tiles n t row [] differs) ∙ h.0 t k (omega arith)
   ],
   λ t k l. ap (λ r. get_or r k None) (get_or-set_other tiles n t row [] (λ e. omega arith)) ∙ h.1 t k (omega arith),

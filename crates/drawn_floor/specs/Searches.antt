@@ -1,5 +1,5 @@
 -- What a search over the table of joined tiles finds.
-use Rattle.std.specs.Prelude.{◌≡◌, ℕ, ◌<◌, Bool, false, List, Some, None, Option, slice_index_or}
+use Rattle.std.specs.Prelude.{◌≡◌, ℕ, Bool, false, List, Some, None, Option, slice_index_or}
 use Rattle.floor.specs.Links.{joins_two}
 use Rattle.floor.specs.Walks.{Walk, Shortest}
 use Rattle.drawn_floor.specs.Tables.{Listed}

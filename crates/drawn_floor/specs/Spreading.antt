@@ -1,7 +1,6 @@
 -- How a search spreads: it meets tiles that it has not met before, layer by layer.
 use Rattle.std.specs.Prelude.{◌≡◌, ℕ, ◌+◌, ◌<◌, ◌≤◌, ◌⊎◌, List, [], ◌∷◌, ◌++◌, length, Some, None, Option, IsSome, slice_index, slice_index_or}
 use Rattle.floor.specs.Walks.{Walk, Shortest}
-use Rattle.drawn_floor.specs.Searches.{Passes}
 use Rattle.drawn_floor.specs.declared.search.Search.{Search}
 
 -- how many tiles a search has not met

@@ -1,5 +1,5 @@
-ghost use Rattle.std.specs.Prelude.{◌≡◌, ℕ, ◌<◌, ◌≤◌, [], length, Some, slice_index_or};
-ghost use Rattle.drawn_floor.specs.Tables.{at_place};
+ghost use Rattle.std.specs.Prelude.{◌≡◌, ℕ, ◌<◌, ◌≤◌, length, Some};
+ghost use Rattle.drawn_floor.specs.Tables.{at_place, SixPlaces};
 
 use floor::Tile;
 
@@ -20,6 +20,6 @@ pub struct JoinedTiles {
     ghost least: { 3 ≤ size },
     ghost fits: { size < 256 },
     ghost long: { length tiles ≡ 256 },
-    ghost wide: { (t : ℕ) → t < 256 → length (slice_index_or tiles t []) ≡ 6 },
+    ghost wide: { SixPlaces tiles },
     ghost below: { (t k u : ℕ) → at_place tiles t k ≡ Some u → u < size },
 }

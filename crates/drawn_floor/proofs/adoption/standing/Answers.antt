@@ -1,9 +1,7 @@
 use Rattle.std.proofs.Common.{◌≡◌, is_some, sym, ap, ◌∙◌}
 use Rattle.std.proofs.lemmas.Bool.Decides.{not_from_Decides}
-use Rattle.base.specs.Lists.{greatest}
 use Rattle.floor.specs.Links.{pairs_of, linked_to}
 use Rattle.drawn_floor.specs.Tables.{Tabled}
-use Rattle.drawn_floor.specs.declared.joined_tiles.JoinedTiles.{JoinedTiles}
 use Rattle.drawn_floor.proofs.Adopting.{refused_of, granted_of, no_floor, no_room, agreed, not_agreed, kept_made}
 use Rattle.drawn_floor.proofs.adoption.standing.Goals as goal
 use Rattle.drawn_floor.proofs.adoption.standing.Goals.{then-pulls-places-via-then-pulls-places, then-pulls-places-via-else-pulls-places+then-not-agrees}

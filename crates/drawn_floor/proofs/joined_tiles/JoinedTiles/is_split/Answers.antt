@@ -8,6 +8,6 @@ returns c =
     let steps = c.search.result in
     let room : c.from.result ≤ length steps = search rules in
     Decides-at c.contains.result _ c.contains.ensures.value (Decides-like _
-        (λ h. (h.0, omega (arith, c.from.ensures, h.1), found_none (get_or steps h.0 None) (c.search.ensures h.0) h.2))
-        (λ h. (h.0, omega (arith, c.from.ensures, h.1), none_found (get_or steps h.0 None) (c.search.ensures h.0) h.2))
-        (missing_decides _ refl (λ d. refl) c.from.result steps room))
+    (λ h. (h.0, omega (arith, c.from.ensures, h.1), found_none (get_or steps h.0 None) (c.search.ensures h.0) h.2))
+    (λ h. (h.0, omega (arith, c.from.ensures, h.1), none_found (get_or steps h.0 None) (c.search.ensures h.0) h.2))
+    (missing_decides _ refl (λ d. refl) c.from.result steps room))

@@ -1,4 +1,4 @@
-use Rattle.std.proofs.Common.{◌<◌, get_or, None, arith, rules}
+use Rattle.std.proofs.Common.{◌<◌, get_or, None, arith}
 use Rattle.drawn_floor.proofs.Finding.{found_some}
 use Rattle.drawn_floor.proofs.joined_tiles.JoinedTiles.measure_to.Goals as goal
 

@@ -1,4 +1,4 @@
-use Rattle.std.proofs.Common.{◌≡◌, ◌≤◌, length, get_or, None, Some, Decides, arith, rules, tests}
+use Rattle.std.proofs.Common.{◌≡◌, ◌≤◌, length, get_or, None, arith, rules, tests}
 use Rattle.std.proofs.lemmas.Bool.Decides.{Decides-like, Decides-at}
 use Rattle.std.proofs.lemmas.Iterator.{YieldsList-from_slice, YieldsList-from_zip}
 use Rattle.std.proofs.lemmas.Iterator.Search.{all_from_yields_List}
@@ -13,6 +13,6 @@ returns c =
     let room : length numbers ≤ length steps = omega (arith, c.requires.long, c.args.self.now.fits) in
     let all = all_from_yields_List is_steps c.all.new.self _ _ c.all.ensures.ran (YieldsList-from_zip (YieldsList-from_slice numbers cc) (YieldsList-from_slice steps cc)) (λ x b q k. search (rules, tests)) in
     Decides-at c.all.result _ all (Decides-like _
-        (λ h. λ t l. some_found (get_or steps t None) (c.search-steps.ensures t) (h t (omega (arith, l, c.requires.long))))
-        (λ h. λ t l. found_some (get_or steps t None) (c.search-steps.ensures t) (h t (omega (arith, l, c.requires.long))))
-        (row_decides numbers steps room))
+    (λ h. λ t l. some_found (get_or steps t None) (c.search-steps.ensures t) (h t (omega (arith, l, c.requires.long))))
+    (λ h. λ t l. found_some (get_or steps t None) (c.search-steps.ensures t) (h t (omega (arith, l, c.requires.long))))
+    (row_decides numbers steps room))

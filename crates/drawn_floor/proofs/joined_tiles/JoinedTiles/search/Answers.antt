@@ -1,4 +1,4 @@
-use Rattle.std.proofs.Common.{◌≡◌, ◌<◌, length, arith, rules}
+use Rattle.std.proofs.Common.{◌≡◌, ◌<◌, length, rules}
 use Rattle.drawn_floor.specs.Searches.{Passes}
 use Rattle.drawn_floor.proofs.Spreading.{layered_begun, layered_more, filled}
 use Rattle.drawn_floor.proofs.joined_tiles.JoinedTiles.search.Goals as goal

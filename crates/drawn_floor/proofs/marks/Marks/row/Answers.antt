@@ -39,6 +39,6 @@ returns c =
     let same : listed ≡ us = c.as_slice-joined.ensures.value ∙ c.loop-other.invariant ∙ ap (λ n. marked_to n marks c.args.tile) all in
     let few : length us ≤ 6 = omega (arith, ap length same, c.as_slice-joined.ensures.fits) in (
       le-ltb 6 (length us) few,
-      rowed us c.from_fn.result 6 c.from_fn.ensures.items.long few
+      rowed us c.from_fn.result c.from_fn.ensures.items.long few
           (λ k l. from_fn_at _ (slice_get listed) _ (λ i y q called. search (rules, tests)) c.from_fn.result 6 k None c.from_fn.ensures.items l ∙ ap (λ ts. slice_get ts k) same),
     )

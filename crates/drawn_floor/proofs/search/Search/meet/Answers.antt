@@ -1,6 +1,6 @@
-use Rattle.std.proofs.Common.{◌≡◌, ◌<◌, length, None, [], ◌∷◌, refl, sym, ap, subst, set, Some, arith, rules, lit<}
+use Rattle.std.proofs.Common.{◌≡◌, ◌<◌, length, [], ◌∷◌, refl, sym, subst, set, Some, arith, rules, lit<}
 use Rattle.drawn_floor.proofs.Spreading.{none_at, unmet_some, spreads_one}
-use Rattle.drawn_floor.specs.Spreading.{Spreads, steps_of}
+use Rattle.drawn_floor.specs.Spreading.{Spreads}
 use Rattle.drawn_floor.proofs.search.Search.meet.Goals as goal
 
 pub push-requires : goal.push-requires
