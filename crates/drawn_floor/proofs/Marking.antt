@@ -1,7 +1,7 @@
 -- Marks for the tiles that pairs join, one pair after the other.
 use Rattle.std.proofs.Common.{◌≡◌, ℕ, ◌<◌, Bool, true, false, ◌&&◌, ◌||◌, eqb, List, [], ◌∷◌, ◌++◌, length, get_or, set, replicate, sym, refl, ap, ◌∙◌, inl, inr, arith}
 use Rattle.std.proofs.Math.Bool.{or-false, or-true, or_assoc}
-use Rattle.std.proofs.lemmas.List.{get_or-set_same, get_or-set_other, append-nil, append_assoc}
+use Rattle.std.proofs.lemmas.List.{get_or-set_same, get_or-set_other, append_assoc}
 use Rattle.std.proofs.lemmas.Bool.{or_cases, or_left, or_right, or_parts, cases_eq, true≢false}
 use Rattle.std.proofs.lemmas.Bool.Decides.{nat_tests}
 use Rattle.base.specs.Lists.{below, those}
@@ -64,11 +64,6 @@ pub marking_start : (all left : List (ℕ × ℕ)) (m n : ℕ) → left ≡ all 
 marking_start all left m n e = record { whole = e; once = refl; here = same_rows m n false }
 
 module _ {all met left : List (ℕ × ℕ)} {marks : List (List Bool)} (so_far : Marking all met left marks) where
-  pub marking_end : left ≡ [] → (joins_again all ≡ false) × Marked all marks
-  marking_end none =
-      let same : met ≡ all = sym (append-nil met) ∙ ap (λ rest. met ++ rest) (sym none) ∙ so_far.whole in
-      (ap joins_again (sym same) ∙ so_far.once, λ a b. so_far.here a b ∙ ap (λ ps. linked ps a b) same)
-
   module _ (p : ℕ × ℕ) (rest : List (ℕ × ℕ)) (next : left ≡ p ∷ rest) where
     with_next : (met ++ p ∷ []) ++ rest ≡ all
     with_next = append_assoc met (p ∷ []) rest ∙ ap (λ more. met ++ more) (sym next) ∙ so_far.whole

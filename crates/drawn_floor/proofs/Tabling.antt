@@ -1,9 +1,9 @@
 -- A row of joined tiles, filled tile by tile, and the table of such rows.
-use Rattle.std.proofs.Common.{◌≡◌, ℕ, zero, suc, ◌+◌, ◌<◌, ◌≤◌, Bool, true, eqb, ltb, List, [], length, get_or, set, replicate, Some, None, Option, sym, refl, ap, ◌∙◌, inl, inr, arith}
+use Rattle.std.proofs.Common.{◌≡◌, ℕ, zero, suc, ◌+◌, ◌<◌, ◌≤◌, Bool, true, eqb, ltb, List, [], length, get_or, replicate, Some, None, Option, sym, refl, ap, ◌∙◌, inl, inr, arith}
 use Rattle.std.specs.Array.{IsFromFnResultFrom, IsFromFnResult}
 use Rattle.std.specs.Fn.{Called}
 use Rattle.std.specs.List.{slice_get}
-use Rattle.std.proofs.lemmas.List.{get_or-set_same, get_or-set_other, get_or-replicate, get_or_past, length_push, length-replicate}
+use Rattle.std.proofs.lemmas.List.{get_or-replicate, get_or_past, length_push, length-replicate}
 use Rattle.std.proofs.lemmas.Option.{slice_get_past, slice_get_within, get_or_from_slice_get}
 use Rattle.std.proofs.lemmas.Bool.{cases_eq, cases_lt, eq-eqb, lt-ltb}
 use denote.Param.Members.{Mut}
@@ -62,22 +62,6 @@ tabled_none joined_to m n = (λ t k l. absurd (omega arith), λ t k l. same_rows
 
 pub six_none : SixPlaces (replicate 256 (replicate 6 None))
 six_none t l = ap length (get_or-replicate 256 t (replicate 6 None) [] l) ∙ length-replicate {A = Option ℕ} 6 None
-
-pub six_more : (n : ℕ) (tiles : List (List (Option ℕ))) (row : List (Option ℕ)) → n < length tiles → length row ≡ 6 → SixPlaces tiles → SixPlaces (set tiles n row)
-six_more n tiles row within six all t l = elim (cases_eq t n) [
-  | inl e ↦ ap (λ i. length (get_or (set tiles n row) i [])) e ∙ ap length (get_or-set_same tiles n row [] within) ∙ six
-  | inr differs ↦ ap length (get_or-set_other tiles n t row [] differs) ∙ all t l
-]
-
--- one more row
-pub tabled_more : (n : ℕ) (joined_to : ℕ → List ℕ) (tiles : List (List (Option ℕ))) (row : List (Option ℕ)) → n < length tiles → Rowed (joined_to n) row → Tabled n joined_to tiles → Tabled (n + 1) joined_to (set tiles n row)
-tabled_more n joined_to tiles row within is h = (
-  λ t k l. elim (cases_eq t n) [
-    | inl e ↦ ap (λ r. get_or r k None) (ap (λ i. get_or (set tiles n row) i []) e ∙ get_or-set_same tiles n row [] within) ∙ is.1 k ∙ ap (λ i. slice_get (joined_to i) k) (sym e)
-    | inr differs ↦ ap (λ r. get_or r k None) (get_or-set_other tiles n t row [] differs) ∙ h.0 t k (omega arith)
-  ],
-  λ t k l. ap (λ r. get_or r k None) (get_or-set_other tiles n t row [] (λ e. omega arith)) ∙ h.1 t k (omega arith),
-)
 
 -- the tiles that are listed are of those below n
 pub tabled_below : (n : ℕ) (test : ℕ → ℕ → Bool) (tiles : List (List (Option ℕ))) → Tabled n (λ t. those (test t) (below n)) tiles → (t k u : ℕ) → at_place tiles t k ≡ Some u → u < n

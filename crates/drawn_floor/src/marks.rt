@@ -1,4 +1,4 @@
-ghost use Rattle.std.specs.Prelude.{◌≡◌, ℕ, ◌<◌, ◌≤◌, true, false, ◌&&◌, ◌||◌, ◌==◌, length, IfSome, MatchOption, nat_lt};
+ghost use Rattle.std.specs.Prelude.{◌≡◌, ℕ, ◌≤◌, true, false, ◌&&◌, ◌||◌, ◌==◌, length, IfSome, MatchOption, nat_lt};
 ghost use Rattle.std.specs.List.{slice_get};
 ghost use Rattle.base.specs.Lists.{below, some_is};
 ghost use Rattle.floor.specs.Links.{joins_two, pairs_of};
@@ -50,7 +50,7 @@ impl Marks {
         self.mark(b, a);
     }
 
-    // One way round.
+    // Marks `b` in the row of `a`, and not the other way round.
     fn mark(&mut self, a: Tile, b: Tile)
         ensures { (x y : ℕ) → marked self.new.marks x y ≡ (marked self.old.marks x y || (a == x && b == y)) }
     {

@@ -1,6 +1,6 @@
 use Rattle.std.proofs.Common.{sym, ap, ◌∙◌}
 use Rattle.floor.specs.Links.{pairs_of}
-use Rattle.drawn_floor.proofs.Marking.{marking_start, marking_met, marking_more, marking_end}
+use Rattle.drawn_floor.proofs.Marking.{marking_start, marking_met, marking_more}
 use Rattle.drawn_floor.proofs.marks.Marks.of.Goals as goal
 
 pub loop-pair-init : goal.loop-pair-init
@@ -12,6 +12,3 @@ returns-then-has c = marking_met c.loop-pair.invariant c.in-Some.pair (pairs_of 
 pub loop-pair-preserved : goal.loop-pair-preserved
 loop-pair-preserved c =
     marking_more c.loop-pair.invariant c.in-Some.pair (pairs_of c.next.new.self.links.now) c.in-Some.ensures.steps c.add.new.self.marks (sym c.has.ensures ∙ c.if-has.false) c.add.ensures
-
-pub returns : goal.returns
-returns c = marking_end c.loop-pair.invariant c.in-None.ensures.steps.0

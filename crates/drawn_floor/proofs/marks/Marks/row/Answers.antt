@@ -1,12 +1,12 @@
-use Rattle.std.proofs.Common.{◌≡◌, ◌≤◌, ◌∷◌, ◌++◌, [], length, ltb, true, None, sym, ap, ◌∙◌, rules, arith}
+use Rattle.std.proofs.Common.{◌≡◌, ◌≤◌, length, ltb, true, None, sym, ap, ◌∙◌, rules, arith}
 use Rattle.std.specs.List.{slice_get}
 use Rattle.std.proofs.lemmas.Bool.{le-ltb}
+use Rattle.std.proofs.lemmas.Grind.{common_steps}
 use borrow.Author.Tests.{tests}
 use Rattle.base.proofs.Numbers.{those_more_yes, those_more_no}
 use Rattle.drawn_floor.specs.Marks.{marked, marked_to}
 use Rattle.drawn_floor.proofs.Tabling.{from_fn_at, rowed, those_none, those_past}
 use Rattle.drawn_floor.proofs.marks.Marks.row.Goals as goal
-use Rattle.drawn_floor.proofs.marks.Marks.row.Goals.{then-has+in_ok-ok, else-has}
 
 pub loop-other-init : goal.loop-other-init
 loop-other-init c = c.new-joined.ensures ∙ sym (those_none (marked c.args.self.now.marks c.args.tile))
@@ -20,15 +20,7 @@ returns-in_err-ok c =
     rw c.from_residual.ensures e
 
 pub loop-other-preserved : goal.loop-other-preserved
-loop-other-preserved c =
-    let test = marked c.args.self.now.marks c.args.tile in
-    let other = c.loop-other.other in
-    elim c.if-has.branch [
-      | then-has+in_ok-ok w ↦
-          let pushed : w.try_push.new.self.items ≡ c.loop-other.joined.items ++ other ∷ [] = search rules in
-          ap (λ v. v.items) w.joined-is ∙ pushed ∙ ap (λ us. us ++ other ∷ []) c.loop-other.invariant ∙ sym (those_more_yes test other (sym c.has.ensures ∙ w.if-has.true))
-      | else-has w ↦ ap (λ v. v.items) w.joined-is ∙ c.loop-other.invariant ∙ sym (those_more_no test other (sym c.has.ensures ∙ w.if-has.false))
-    ]
+loop-other-preserved c = grind (arith, common_steps, those_more_yes, those_more_no)
 
 pub returns : goal.returns
 returns c =
