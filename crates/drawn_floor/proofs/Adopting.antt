@@ -1,5 +1,5 @@
 -- When size, links and numbers stand as a granted survey leaves them, said of the table of joined tiles.
-use Rattle.std.proofs.Common.{◌≡◌, ℕ, ◌+◌, ◌*◌, ◌<◌, ◌≤◌, true, false, max, List, [], ◌∷◌, length, get_or, take, IfOk, IsOk, Some, None, Ok, Err, Option, Result, sym, refl, ap, ◌∙◌, subst, arith}
+use Rattle.std.proofs.Common.{◌≡◌, ℕ, ◌+◌, ◌*◌, ◌<◌, ◌≤◌, true, false, max, List, [], ◌∷◌, length, get_or, take, IfOk, Some, None, Ok, Err, Option, Result, sym, refl, ap, ◌∙◌, subst, arith}
 use Rattle.std.specs.List.{slice_get, fold, reduce}
 use Rattle.std.specs.Option.{option_map, unwrap_or}
 use Rattle.std.specs.Result.{result_ok, result_err}
@@ -14,7 +14,7 @@ use Rattle.floor.specs.Survey.{drawing_refusal, distances}
 use Rattle.floor.specs.Walks.{Shortest, within, distance}
 use Rattle.floor.proofs.Standing.{stands_decides, granted_parts, standing_pull}
 use Rattle.floor.proofs.Walking.{shortest_once}
-use Rattle.drawn_floor.specs.Kept.{InPlace, Kept}
+use Rattle.drawn_floor.specs.Kept.{InPlace, IsReach, Stands}
 use Rattle.drawn_floor.specs.Rings.{ring_links, ring_pulls}
 use Rattle.drawn_floor.specs.Searches.{Passes}
 use Rattle.drawn_floor.specs.Tables.{at_place, Tabled}
@@ -28,10 +28,6 @@ refused_of (Err e) none = (e, refl)
 pub granted_of : {X : Type 0} (r : Result X Refusal) (x : X) (P : X → Type 0) → result_ok r ≡ Some x → IfOk r P → (None ≡ result_err r) × P x
 granted_of (Ok y) x P some h = let same : y ≡ x = cc in (refl, subst P same h)
 granted_of (Err e) x P some h = absurd (some_not_none some refl)
-
-pub ok_of : {X : Type 0} (r : Result X Refusal) → result_err r ≡ None → IsOk r
-ok_of (Ok x) none = refl
-ok_of (Err e) none = absurd (some_not_none refl none)
 
 greatest_from : (x : ℕ) (xs : List ℕ) → fold max x xs ≡ max x (greatest xs)
 greatest_from x [] = omega arith
@@ -69,7 +65,7 @@ module _ (n m : ℕ) (links numbers : List ℕ) (tiles : List (List (Option ℕ)
   numbers_are : n * n ≤ length numbers → AllShortest m → take (n * n) numbers ≡ distances n links
   numbers_are room found = shortest_distances n links tiles (sym is-floor) made.1 numbers room (λ g t d lg lt short. shortest_once (subst AllShortest made.0 found g t lg lt) short)
 
-  pub agreed : n * n ≤ length numbers → AllShortest m → stands_surveyed n links numbers ≡ true
+  agreed : n * n ≤ length numbers → AllShortest m → stands_surveyed n links numbers ≡ true
   agreed room found = (stands_decides n links numbers).1 (granted n links numbers (sym is-floor) room, numbers_are room found)
 
   pub not_agreed : (AllShortest m → ⊥) → false ≡ stands_surveyed n links numbers
@@ -77,22 +73,13 @@ module _ (n m : ℕ) (links numbers : List ℕ) (tiles : List (List (Option ℕ)
       (λ s. none (subst AllShortest (sym made.0) (λ g t lg lt. subst (λ d. Shortest (Passes tiles None) t g d) (sym (standing_pull n links numbers s t g lt lg)) (distance_shortest n links tiles (sym is-floor) made.1 t g lt lg)))))
 
   -- what the floor keeps, with the greatest number for its reach
-  pub kept_made : n * n ≤ length numbers → AllShortest m → {far : ℕ} → far ≡ greatest (take (n * n) numbers) → Kept m tiles links numbers far
-  kept_made room found far = record {
-    stands = subst (λ l. stands_surveyed l links numbers ≡ true) (sym made.0) (agreed room found);
-    placed = placed_made;
-    far = far ∙ ap greatest (numbers_are room found) ∙ ap (λ l. greatest (distances l links)) (sym made.0);
-  }
+  pub stands_made : n * n ≤ length numbers → AllShortest m → Stands m links numbers
+  stands_made room found = subst (λ l. stands_surveyed l links numbers ≡ true) (sym made.0) (agreed room found)
+
+  pub reach_made : n * n ≤ length numbers → AllShortest m → {far : ℕ} → far ≡ greatest (take (n * n) numbers) → IsReach m links far
+  reach_made room found far = far ∙ ap greatest (numbers_are room found) ∙ ap (λ l. greatest (distances l links)) (sym made.0)
 
 -- the ring of three tiles, computed
-pub ring_drawn : drawing_refusal 3 ring_links ≡ None
-unfolding below those within
-ring_drawn = refl
-
 pub ring_stands : stands_surveyed 3 ring_links ring_pulls ≡ true
 unfolding below those within distance
 ring_stands = refl
-
-pub ring_reach : greatest (distances 3 ring_links) ≡ 1
-unfolding below those within distance
-ring_reach = refl

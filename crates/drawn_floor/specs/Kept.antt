@@ -18,9 +18,3 @@ InPlace n links tiles = (t k : ℕ) → t < n → at_place tiles t k ≡ slice_g
 -- the greatest of all distances
 abbrev pub IsReach : ℕ → List ℕ → ℕ → Type 0
 IsReach n links reach = reach ≡ greatest (distances n links)
-
--- all of it
-pub record Kept (n : ℕ) (tiles : List (List (Option ℕ))) (links pulls : List ℕ) (reach : ℕ) : Type 0 where
-  pub stands : Stands n links pulls
-  pub placed : InPlace n links tiles
-  pub far : IsReach n links reach

@@ -2,7 +2,6 @@ ghost use Rattle.std.specs.Prelude.{◌≡◌, ℕ, ◌+◌, ◌*◌, ◌<◌, �
 ghost use Rattle.base.specs.Lists.{greatest};
 ghost use Rattle.floor.specs.Drawn.{stands_surveyed};
 ghost use Rattle.floor.specs.Walks.{Shortest};
-ghost use Rattle.drawn_floor.specs.Kept.{Kept};
 ghost use Rattle.drawn_floor.specs.Rings.{ring_links, ring_pulls};
 ghost use Rattle.drawn_floor.specs.Searches.{Passes};
 
@@ -52,45 +51,36 @@ fn greatest_of(numbers: &[Pull]) -> Pull
     numbers.iter().copied().max().unwrap_or(0)
 }
 
-// The joined tiles and the reach of the floor that these make, if they stand as a granted survey leaves them.
-fn standing(drawing: Drawing, pulls: &[Pull]) -> Option<(JoinedTiles, Pull)>
-    ensures answer { is_some result ≡ stands_surveyed drawing.entry.size drawing.entry.links.now pulls.now }
-    ensures size { IfSome result (λ x. x.0.size ≡ drawing.entry.size) }
-    ensures kept { IfSome result (λ x. Kept x.0.size x.0.tiles drawing.entry.links.now pulls.now x.1) }
-{
-    let joined = drawing.floor().ok()?;
-    let places = drawing.size as usize * drawing.size as usize;
-    if pulls.len() < places || !joined.agrees(pulls) {
-        return None;
-    }
-    Some((joined, greatest_of(&pulls[..places])))
-}
-
-// The joined tiles of the ring of three.
-fn ring_tiles() -> JoinedTiles
-    ensures size { result.size ≡ 3 }
-    ensures kept { Kept result.size result.tiles ring_links ring_pulls 1 }
-{
-    let ring = Drawing {
-        size: 3,
-        links: &RING_LINKS,
-    };
-    ring.floor().unwrap()
-}
-
 impl<'a> DrawnFloor<'a> {
+    // The floor of a drawing with these pulls, if they stand as a granted survey leaves them.
+    fn standing(drawing: Drawing<'a>, pulls: &'a [Pull]) -> Option<DrawnFloor<'a>>
+        ensures answer { is_some result ≡ stands_surveyed drawing.entry.size drawing.entry.links.now pulls.now }
+        ensures made { IfSome result (λ f. (f.joined.size ≡ drawing.entry.size) × (f.links.now ≡ drawing.entry.links.now) × (f.pulls.now ≡ pulls.now)) }
+    {
+        let joined = drawing.floor().ok()?;
+        let places = drawing.size as usize * drawing.size as usize;
+        if pulls.len() < places || !joined.agrees(pulls) {
+            return None;
+        }
+        Some(DrawnFloor {
+            joined,
+            links: drawing.links,
+            pulls,
+            reach: greatest_of(&pulls[..places]),
+        })
+    }
+
     // A ring of three tiles.
     pub fn ring() -> DrawnFloor<'a>
         ensures size { result.joined.size ≡ 3 }
         ensures links { result.links.now ≡ ring_links }
         ensures pulls { result.pulls.now ≡ ring_pulls }
     {
-        DrawnFloor {
-            joined: ring_tiles(),
+        let ring = Drawing {
+            size: 3,
             links: &RING_LINKS,
-            pulls: &RING_PULLS,
-            reach: 1,
-        }
+        };
+        DrawnFloor::standing(ring, &RING_PULLS).unwrap()
     }
 
     // Becomes the floor of these tiles, links and pulls, if they stand as a granted survey leaves them. Else the answer
@@ -100,15 +90,10 @@ impl<'a> DrawnFloor<'a> {
         ensures became { result ≡ true → (self.new.joined.size ≡ size) × (self.new.links.now ≡ links.now) × (self.new.pulls.now ≡ pulls.now) }
         ensures same { result ≡ false → self.new ≡ self.old }
     {
-        let Some((joined, reach)) = standing(Drawing { size, links }, pulls) else {
+        let Some(floor) = DrawnFloor::standing(Drawing { size, links }, pulls) else {
             return false;
         };
-        *self = DrawnFloor {
-            joined,
-            links,
-            pulls,
-            reach,
-        };
+        *self = floor;
         true
     }
 }
