@@ -71,6 +71,7 @@ impl<'a> DrawnFloor<'a> {
     }
 
     // A ring of three tiles.
+    #[tactic(auto, using(crate::proofs::Adopting::ring_stands))]
     pub fn ring() -> DrawnFloor<'a>
         ensures size { result.joined.size ≡ 3 }
         ensures links { result.links.now ≡ ring_links }
