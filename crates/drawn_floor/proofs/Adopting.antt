@@ -1,51 +1,49 @@
 -- When size, links and numbers stand as a granted survey leaves them, said of the table of joined tiles.
-use Rattle.std.proofs.Common.{◌≡◌, ℕ, ◌+◌, ◌*◌, ◌/◌, ◌%◌, ◌<◌, ◌≤◌, true, false, List, length, get_or, take, Some, None, Option, sym, refl, ap, ◌∙◌, subst, inl, arith}
-use Rattle.std.specs.List.{slice_get}
-use Rattle.std.proofs.lemmas.Nat.{div-add-mod', div_below, mod_below, div-mul-add, mod-mul-add}
-use Rattle.std.proofs.lemmas.Bool.{eqb-true, eq-eqb, false≢true}
+use Rattle.std.proofs.Common.{◌≡◌, ℕ, ◌+◌, ◌*◌, ◌<◌, ◌≤◌, true, false, max, List, [], ◌∷◌, length, get_or, take, IfOk, Some, None, Ok, Err, Option, Result, sym, refl, ap, ◌∙◌, subst, arith}
+use Rattle.std.specs.List.{slice_get, fold, reduce}
+use Rattle.std.specs.Option.{option_map, unwrap_or}
+use Rattle.std.specs.Result.{result_ok, result_err}
 use Rattle.base.proofs.Ascending.{false_by}
-use Rattle.base.proofs.Testing.{passed_all, passed_both, some_not_none}
+use Rattle.base.proofs.Testing.{some_not_none}
 use Rattle.base.specs.Lists.{below, those, greatest}
 use Rattle.base.specs.declared.refusal.Refusal.{Refusal}
 use Rattle.floor.specs.Drawn.{drawn_model, stands_surveyed}
 use Rattle.floor.specs.Floors.{joined_to}
-use Rattle.floor.specs.Links.{pairs_of, linked, linked_to}
-use Rattle.floor.specs.Survey.{link_tests, walk_tests, drawing_refusal, distances}
-use Rattle.floor.specs.Walks.{within, distance}
+use Rattle.floor.specs.Links.{pairs_of, linked_to}
+use Rattle.floor.specs.Survey.{drawing_refusal, distances}
+use Rattle.floor.specs.Walks.{Shortest, within, distance}
 use Rattle.floor.proofs.Standing.{stands_decides, granted_parts, standing_pull}
-use Rattle.floor.proofs.SurveyFacts.{distance_drawn}
-use Rattle.floor.proofs.Walking.{shortest_along}
-use Rattle.drawn_floor.specs.Kept.{InPlace, Kept}
+use Rattle.floor.proofs.Walking.{shortest_once}
+use Rattle.drawn_floor.specs.Kept.{InPlace, IsReach, Stands}
 use Rattle.drawn_floor.specs.Rings.{ring_links, ring_pulls}
-use Rattle.drawn_floor.specs.Searches.{Passes, Found}
-use Rattle.drawn_floor.specs.Tables.{Tabled, same_hold}
-use Rattle.drawn_floor.proofs.Finding.{to_linked, from_linked}
-use Rattle.drawn_floor.proofs.Measuring.{pass, found_distances, granted}
+use Rattle.drawn_floor.specs.Searches.{Passes}
+use Rattle.drawn_floor.specs.Tables.{at_place, Tabled}
+use Rattle.drawn_floor.proofs.Measuring.{distance_shortest, shortest_distances, granted}
 
-same_held : (a b : Option ℕ) → same_hold a b ≡ true → a ≡ b
-same_held None None e = refl
-same_held None (Some b) e = absurd (false≢true e)
-same_held (Some a) None e = absurd (false≢true e)
-same_held (Some a) (Some b) e = ap Some (eqb-true a b e)
+-- an answer without a value, and one with it
+pub refused_of : {X : Type 0} (r : Result X Refusal) → result_ok r ≡ None → (e : Refusal) × (Some e ≡ result_err r)
+refused_of (Ok x) none = absurd (some_not_none refl none)
+refused_of (Err e) none = (e, refl)
 
-same_itself : (a : Option ℕ) → same_hold a a ≡ true
-same_itself None = refl
-same_itself (Some a) = eq-eqb a a refl
+pub granted_of : {X : Type 0} (r : Result X Refusal) (x : X) (P : X → Type 0) → result_ok r ≡ Some x → IfOk r P → (None ≡ result_err r) × P x
+granted_of (Ok y) x P some h = let same : y ≡ x = cc in (refl, subst P same h)
+granted_of (Err e) x P some h = absurd (some_not_none some refl)
 
--- the places of a table, counted through
-pub listed_places : (n : ℕ) (f : ℕ → List ℕ) (tiles : List (Option ℕ)) → Tabled n f tiles → (j : ℕ) → j < n * 6 → same_hold (get_or tiles j None) (slice_get (f (j / 6)) (j % 6)) ≡ true
-listed_places n f tiles tabled j l =
-    let at = tabled.0 (j / 6) (j % 6) (div_below j 6 n (omega arith) l) (mod_below j 6 (omega arith)) in
-    let here : get_or tiles j None ≡ slice_get (f (j / 6)) (j % 6) = ap (λ i. get_or tiles i None) (sym (div-add-mod' j 6)) ∙ at in
-    ap (λ o. same_hold o (slice_get (f (j / 6)) (j % 6))) here ∙ same_itself (slice_get (f (j / 6)) (j % 6))
+greatest_from : (x : ℕ) (xs : List ℕ) → fold max x xs ≡ max x (greatest xs)
+greatest_from x [] = omega arith
+greatest_from x (y ∷ ys) = greatest_from (max x y) ys ∙ omega arith
 
--- and back: the tile at place k of tile t
-pub listed_at : (n : ℕ) (links : List ℕ) (tiles : List (Option ℕ)) → InPlace n links tiles
-    → (t k : ℕ) → t < n → k < 6 → get_or tiles (t * 6 + k) None ≡ slice_get (joined_to (drawn_model n links) t) k
+-- the greatest as the library finds it, none of no number
+pub greatest_found : (xs : List ℕ) (o : Option ℕ) → option_map (λ x. x) o ≡ reduce max xs → unwrap_or o 0 ≡ greatest xs
+greatest_found [] None e = refl
+greatest_found [] (Some y) e = absurd (some_not_none refl e)
+greatest_found (x ∷ xs) None e = absurd (some_not_none refl (sym e))
+greatest_found (x ∷ xs) (Some y) e = let same : y ≡ fold max x xs = cc in same ∙ greatest_from x xs
+
+-- what the row of tile t holds at place k
+pub placed_at : (n : ℕ) (links : List ℕ) (tiles : List (List (Option ℕ))) → InPlace n links tiles → (t k : ℕ) → t < n → at_place tiles t k ≡ slice_get (joined_to (drawn_model n links) t) k
 unfolding joined_to
-listed_at n links tiles listed t k lt lk =
-    same_held (get_or tiles (t * 6 + k) None) (slice_get (linked_to n (pairs_of links) ((t * 6 + k) / 6)) ((t * 6 + k) % 6)) (listed (t * 6 + k) (omega arith))
-    ∙ ap (λ u. slice_get (linked_to n (pairs_of links) u) ((t * 6 + k) % 6)) (div-mul-add t 6 k lk) ∙ ap (slice_get (linked_to n (pairs_of links) t)) (mod-mul-add t 6 k lk)
+placed_at n links tiles placed = placed
 
 module _ (n : ℕ) (links numbers : List ℕ) where
   -- links that make no floor
@@ -57,48 +55,31 @@ module _ (n : ℕ) (links numbers : List ℕ) where
   no_room l = sym (false_by (stands_surveyed n links numbers) (λ s. omega (arith, (granted_parts n links (length numbers) ((stands_decides n links numbers).0 s).0).1)))
 
 -- a drawing that is a floor, with the table of m = n tiles that was made of it
-module _ (n m : ℕ) (links numbers : List ℕ) (tiles : List (Option ℕ)) (is-floor : None ≡ drawing_refusal n links) (made : (m ≡ n) × Tabled n (linked_to n (pairs_of links)) tiles) where
-  -- each distance is what a search finds
-  distance_found : (t g : ℕ) → t < n → g < n → Found (Passes tiles None) n t g (distance (linked (pairs_of links)) n t g)
-  distance_found t g lt lg =
-      let ok = pass n links tiles (sym is-floor) made.1 in
-      let walks = passed_all (walk_tests n links) (passed_both (link_tests n links) (walk_tests n links) (sym is-floor)).1 in
-      let short = distance_drawn n links ok.known walks.0 t g lt lg in
-      inl (shortest_along (from_linked n links tiles ok made.1) (to_linked n links tiles ok made.1) short.0, short.1)
+module _ (n m : ℕ) (links numbers : List ℕ) (tiles : List (List (Option ℕ))) (is-floor : None ≡ drawing_refusal n links) (made : (m ≡ n) × Tabled n (linked_to n (pairs_of links)) tiles) where
+  pub placed_made : InPlace m links tiles
+  placed_made = subst (λ l. InPlace l links tiles) (sym made.0) made.1.0
 
-  abbrev AllFound : ℕ → Type 0
-  AllFound l = (g t : ℕ) → g < l → t < l → Found (Passes tiles None) l t g (get_or numbers (g * l + t) 0)
+  abbrev AllShortest : ℕ → Type 0
+  AllShortest l = (g t : ℕ) → g < l → t < l → Shortest (Passes tiles None) t g (get_or numbers (g * l + t) 0)
 
-  numbers_are : n * n ≤ length numbers → AllFound m → take (n * n) numbers ≡ distances n links
-  numbers_are room found = found_distances n links tiles (sym is-floor) made.1 numbers room (subst AllFound made.0 found)
+  numbers_are : n * n ≤ length numbers → AllShortest m → take (n * n) numbers ≡ distances n links
+  numbers_are room found = shortest_distances n links tiles (sym is-floor) made.1 numbers room (λ g t d lg lt short. shortest_once (subst AllShortest made.0 found g t lg lt) short)
 
-  pub agreed : n * n ≤ length numbers → AllFound m → stands_surveyed n links numbers ≡ true
+  agreed : n * n ≤ length numbers → AllShortest m → stands_surveyed n links numbers ≡ true
   agreed room found = (stands_decides n links numbers).1 (granted n links numbers (sym is-floor) room, numbers_are room found)
 
-  pub not_agreed : (AllFound m → ⊥) → false ≡ stands_surveyed n links numbers
+  pub not_agreed : (AllShortest m → ⊥) → false ≡ stands_surveyed n links numbers
   not_agreed none = sym (false_by (stands_surveyed n links numbers)
-      (λ s. none (subst AllFound (sym made.0) (λ g t lg lt. subst (λ d. Found (Passes tiles None) n t g d) (sym (standing_pull n links numbers s t g lt lg)) (distance_found t g lt lg)))))
-
-  pub listed_made : InPlace m links tiles
-  listed_made = subst (λ l. InPlace l links tiles) (sym made.0) (listed_places n (linked_to n (pairs_of links)) tiles made.1)
+      (λ s. none (subst AllShortest (sym made.0) (λ g t lg lt. subst (λ d. Shortest (Passes tiles None) t g d) (sym (standing_pull n links numbers s t g lt lg)) (distance_shortest n links tiles (sym is-floor) made.1 t g lt lg)))))
 
   -- what the floor keeps, with the greatest number for its reach
-  pub kept_made : n * n ≤ length numbers → AllFound m → {far : ℕ} → far ≡ greatest (take (n * n) numbers) → Kept m tiles links numbers far
-  kept_made room found far = record {
-    stands = subst (λ l. stands_surveyed l links numbers ≡ true) (sym made.0) (agreed room found);
-    placed = listed_made;
-    far = far ∙ ap greatest (numbers_are room found) ∙ ap (λ l. greatest (distances l links)) (sym made.0);
-  }
+  pub stands_made : n * n ≤ length numbers → AllShortest m → Stands m links numbers
+  stands_made room found = subst (λ l. stands_surveyed l links numbers ≡ true) (sym made.0) (agreed room found)
+
+  pub reach_made : n * n ≤ length numbers → AllShortest m → {far : ℕ} → far ≡ greatest (take (n * n) numbers) → IsReach m links far
+  reach_made room found far = far ∙ ap greatest (numbers_are room found) ∙ ap (λ l. greatest (distances l links)) (sym made.0)
 
 -- the ring of three tiles, computed
-pub ring_drawn : drawing_refusal 3 ring_links ≡ None
-unfolding below those within
-ring_drawn = refl
-
 pub ring_stands : stands_surveyed 3 ring_links ring_pulls ≡ true
 unfolding below those within distance
 ring_stands = refl
-
-pub ring_reach : greatest (distances 3 ring_links) ≡ 1
-unfolding below those within distance
-ring_reach = refl

@@ -1,8 +1,9 @@
-pub mod Adopting
-pub mod Finding
-pub mod Marking
-pub mod Measuring
-pub mod Pairs
-pub mod Searching
-pub mod SixPlaces
-pub mod Tabling
+mod Adopting
+mod Finding
+mod Marking
+mod Measuring
+mod Pairs
+mod Rows
+mod Spreading
+mod Tabling
+mod Turns

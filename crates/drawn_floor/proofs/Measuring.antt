@@ -1,5 +1,5 @@
 -- A table of distances, row after row, and what a survey that writes it answers.
-use Rattle.std.proofs.Common.{◌≡◌, ℕ, ◌+◌, ◌-◌, ◌*◌, ◌/◌, ◌%◌, ◌<◌, ◌≤◌, Bool, ltb, List, [], ◌∷◌, ◌++◌, length, get_or, take, drop, Some, None, Option, sym, ap, ◌∙◌, subst, inl, inr, add-mul, arith}
+use Rattle.std.proofs.Common.{◌≡◌, ℕ, ◌+◌, ◌-◌, ◌*◌, ◌/◌, ◌%◌, ◌<◌, ◌≤◌, Bool, ltb, List, [], ◌∷◌, ◌++◌, length, get_or, take, drop, Some, None, Option, sym, ap, ◌∙◌, subst, add-mul, arith}
 use Rattle.std.proofs.lemmas.Nat.{mul-le, mod_below, div_below, div-add-mod'}
 use Rattle.std.proofs.lemmas.List.{ext_get_or, get_or-take, get_or-drop, length-take-le, take-append-drop}
 use Rattle.std.proofs.lemmas.Bool.{lt-ltb, le-ltb}
@@ -10,12 +10,12 @@ use Rattle.base.specs.declared.refusal.Refusal.TheVariants.{ShortList}
 use Rattle.floor.specs.Drawn.{Surveyed}
 use Rattle.floor.specs.Links.{pairs_of, linked, linked_to}
 use Rattle.floor.specs.Survey.{link_tests, walk_tests, drawing_refusal, survey_refusal, distances, after_survey}
-use Rattle.floor.specs.Walks.{distance}
+use Rattle.floor.specs.Walks.{Shortest, distance}
 use Rattle.floor.proofs.SurveyFacts.{LinksPass, links_pass, distance_drawn, distance_place, length-distances, surveyed}
-use Rattle.floor.proofs.Walking.{shortest_along, shortest_once}
-use Rattle.drawn_floor.specs.Searches.{Passes, Found}
+use Rattle.floor.proofs.Walking.{shortest_along}
+use Rattle.drawn_floor.specs.Searches.{Passes}
 use Rattle.drawn_floor.specs.Tables.{Tabled}
-use Rattle.drawn_floor.proofs.Finding.{to_linked, from_linked, from_walk}
+use Rattle.drawn_floor.proofs.Finding.{to_linked, from_linked}
 
 -- the row of the goal g lies within the table
 pub row_end : (n g m : ℕ) → g < n → n * n ≤ m → g * n + n ≤ m
@@ -30,22 +30,19 @@ pub row_part : (n g t : ℕ) (numbers : List ℕ) → t < n → get_or (take (g 
 row_part n g t numbers l = get_or-take (g * n + n - g * n) (drop (g * n) numbers) t 0 (omega arith) ∙ get_or-drop (g * n) numbers t 0
 
 -- a drawing that is a floor, and the table of its joined tiles
-module _ (n : ℕ) (links : List ℕ) (tiles : List (Option ℕ)) (is-floor : drawing_refusal n links ≡ None) (tabled : Tabled n (linked_to n (pairs_of links)) tiles) where
+module _ (n : ℕ) (links : List ℕ) (tiles : List (List (Option ℕ))) (is-floor : drawing_refusal n links ≡ None) (tabled : Tabled n (linked_to n (pairs_of links)) tiles) where
   pub pass : LinksPass n links
   pass = links_pass n links (passed_both (link_tests n links) (walk_tests n links) is-floor).0
 
-  -- what a search finds is the distance, and only that
-  pub found_distance : (t g d : ℕ) → t < n → g < n → Found (Passes tiles None) n t g d → d ≡ distance (linked (pairs_of links)) n t g
-  found_distance t g d lt lg found =
-      let short = distance_drawn n links pass.known (passed_all (walk_tests n links) (passed_both (link_tests n links) (walk_tests n links) is-floor).1).0 t g lt lg in
-      elim found [
-        | inl near ↦ shortest_once (shortest_along (to_linked n links tiles pass tabled) (from_linked n links tiles pass tabled) near.0) short.0
-        | inr none ↦ absurd (none.1 (distance (linked (pairs_of links)) n t g) (from_walk n links tiles pass tabled short.0.walk))
-      ]
+  -- the distance is the length of a shortest walk over the table
+  pub distance_shortest : (t g : ℕ) → t < n → g < n → Shortest (Passes tiles None) t g (distance (linked (pairs_of links)) n t g)
+  distance_shortest t g lt lg =
+      let walks = passed_all (walk_tests n links) (passed_both (link_tests n links) (walk_tests n links) is-floor).1 in
+      shortest_along (from_linked n links tiles pass tabled) (to_linked n links tiles pass tabled) (distance_drawn n links pass.known walks.0 t g lt lg).0
 
-  -- numbers that a search found, at all places, are the distances
-  pub found_distances : (numbers : List ℕ) → n * n ≤ length numbers → ((g t : ℕ) → g < n → t < n → Found (Passes tiles None) n t g (get_or numbers (g * n + t) 0)) → take (n * n) numbers ≡ distances n links
-  found_distances numbers room found =
+  -- numbers that are the steps of shortest walks, at all places, are the distances
+  pub shortest_distances : (numbers : List ℕ) → n * n ≤ length numbers → ((g t d : ℕ) → g < n → t < n → Shortest (Passes tiles None) t g d → get_or numbers (g * n + t) 0 ≡ d) → take (n * n) numbers ≡ distances n links
+  shortest_distances numbers room are =
       ext_get_or 0 (take (n * n) numbers) (distances n links) (length-take-le (n * n) numbers room ∙ sym (length-distances n links))
       (λ i l. at i (omega (arith, length-take-le (n * n) numbers room)))
     where
@@ -55,7 +52,7 @@ module _ (n : ℕ) (links : List ℕ) (tiles : List (Option ℕ)) (is-floor : dr
           let lg = div_below i n n some l in
           let lt = mod_below i n some in
           get_or-take (n * n) numbers i 0 l ∙ ap (λ j. get_or numbers j 0) (sym (div-add-mod' i n))
-          ∙ found_distance (i % n) (i / n) (get_or numbers ((i / n) * n + i % n) 0) lt lg (found (i / n) (i % n) lg lt) ∙ sym (distance_place n links i l)
+          ∙ are (i / n) (i % n) (distance (linked (pairs_of links)) n (i % n) (i / n)) lg lt (distance_shortest (i % n) (i / n) lt lg) ∙ sym (distance_place n links i l)
 
 module _ (n : ℕ) (links before : List ℕ) where
   abbrev short_test : List (Bool × Refusal)
@@ -88,9 +85,9 @@ module _ (n : ℕ) (links before : List ℕ) where
   survey_means answer after a b = subst (λ o. Surveyed n links o after) (sym a) (subst (λ l. Surveyed n links (survey_refusal n links (length before)) l) (sym b) (surveyed n links before))
 
 -- a table of the tiles that is measured in full
-pub measured : (n m : ℕ) (links before after : List ℕ) (tiles : List (Option ℕ)) → drawing_refusal n links ≡ None → (m ≡ n) × Tabled n (linked_to n (pairs_of links)) tiles → n * n ≤ length before → length after ≡ length before
-    → ((g t : ℕ) → g < m → t < m → Found (Passes tiles None) m t g (get_or after (g * m + t) 0)) → drop (m * m) after ≡ drop (m * m) before → after ≡ after_survey n links before
+pub measured : (n m : ℕ) (links before after : List ℕ) (tiles : List (List (Option ℕ))) → drawing_refusal n links ≡ None → (m ≡ n) × Tabled n (linked_to n (pairs_of links)) tiles → n * n ≤ length before → length after ≡ length before
+    → ((g t d : ℕ) → g < m → t < m → Shortest (Passes tiles None) t g d → get_or after (g * m + t) 0 ≡ d) → drop (m * m) after ≡ drop (m * m) before → after ≡ after_survey n links before
 measured n m links before after tiles e made room same found beyond =
     granted_after n links before after (granted n links before e room)
-    (found_distances n links tiles e made.1 after (omega arith) (subst (λ l. (g t : ℕ) → g < l → t < l → Found (Passes tiles None) l t g (get_or after (g * l + t) 0)) made.0 found))
+    (shortest_distances n links tiles e made.1 after (omega arith) (subst (λ l. (g t d : ℕ) → g < l → t < l → Shortest (Passes tiles None) t g d → get_or after (g * l + t) 0 ≡ d) made.0 found))
     (subst (λ l. drop (l * l) after ≡ drop (l * l) before) made.0 beyond)

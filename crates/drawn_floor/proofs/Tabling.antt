@@ -1,139 +1,75 @@
--- The table of joined tiles, filled place by place and tile by tile.
-use Rattle.std.proofs.Common.{◌≡◌, ℕ, zero, suc, ◌+◌, ◌*◌, ◌<◌, ◌≤◌, Bool, true, false, ltb, leb, List, [], ◌∷◌, ◌++◌, length, get_or, set, replicate, Some, None, Option, sym, refl, ap, ◌∙◌, subst, inl, inr, arith}
+-- A row of joined tiles, filled tile by tile, and the table of such rows.
+use Rattle.std.proofs.Common.{◌≡◌, ℕ, zero, suc, ◌+◌, ◌<◌, ◌≤◌, Bool, true, eqb, ltb, List, [], length, get_or, replicate, Some, None, Option, sym, refl, ap, ◌∙◌, inl, inr, arith}
+use Rattle.std.specs.Array.{IsFromFnResultFrom, IsFromFnResult}
+use Rattle.std.specs.Fn.{Called}
 use Rattle.std.specs.List.{slice_get}
-use Rattle.std.proofs.lemmas.List.{get_or-set_same, get_or-set_other, get_or-replicate, get_or_past, length_push, length-replicate}
-use Rattle.std.proofs.lemmas.Bool.{cases_eq, cases_lt, le-leb, lt-leb, leb-true, leb-false, lt-ltb, le-ltb}
+use Rattle.std.proofs.lemmas.List.{get_or-replicate, get_or_past, length_push, length-replicate}
+use Rattle.std.proofs.lemmas.Option.{slice_get_past, slice_get_within, get_or_from_slice_get}
+use Rattle.std.proofs.lemmas.Bool.{cases_eq, cases_lt, eq-eqb, lt-ltb}
+use denote.Param.Members.{Mut}
 use Rattle.base.specs.Lists.{below, those}
-use Rattle.base.proofs.Numbers.{those_more_yes, those_more_no, length-those_le}
-use Rattle.drawn_floor.specs.Tables.{Tabled, Below}
+use Rattle.base.proofs.Numbers.{those_more_yes, length-those_le, some_in, those_among}
+use Rattle.base.proofs.Testing.{some_not_none}
+use Rattle.drawn_floor.specs.Tables.{at_place, Rowed, SixPlaces, Tabled}
 
-nth_last : (xs : List ℕ) (x : ℕ) → slice_get (xs ++ x ∷ []) (length xs) ≡ Some x
-nth_last [] x = refl
-nth_last (y ∷ ys) x = nth_last ys x
+-- a closure that computes h and stays as it is gave h of each index
+module _ {F B : Type 0} (g : Mut F (ℕ × Unit {0}) B) (h : ℕ → B) (f : F) (computes : (i : ℕ) (y : B) (q : F) → Called g f (i, tt) y q → (q ≡ f) × (y ≡ h i)) (ys : List B) where
+  from_fn_from : (p : F) (i n k : ℕ) (d : B) → p ≡ f → IsFromFnResultFrom g p ys i n → i ≤ k → k < i + n → get_or ys k d ≡ h k
+  from_fn_from p i zero k d same r low high = absurd (omega arith)
+  from_fn_from p i (suc n) k d same (q, y, element, called, rest) low high =
+      let now = computes i y q (rw same at called) in
+      elim (cases_eq k i) [
+        | inl e ↦ ap (λ j. get_or ys j d) e ∙ element.1 d ∙ now.1 ∙ ap h (sym e)
+        | inr differs ↦ from_fn_from q (i + 1) n k d now.0 rest (omega arith) (omega arith)
+      ]
 
-nth_others : (xs : List ℕ) (x k : ℕ) → (k ≡ length xs → ⊥) → slice_get (xs ++ x ∷ []) k ≡ slice_get xs k
-nth_others [] x zero no_last = absurd (no_last refl)
-nth_others [] x (suc k) no_last = refl
-nth_others (y ∷ ys) x zero no_last = refl
-nth_others (y ∷ ys) x (suc k) no_last = nth_others ys x k (λ e. no_last (ap suc e))
+  pub from_fn_at : (n k : ℕ) (d : B) → IsFromFnResult g f ys n → k < n → get_or ys k d ≡ h k
+  from_fn_at n k d r l = from_fn_from f 0 n k d refl r.each (omega arith) (omega arith)
 
--- the same rows under another name
-pub tabled_as : (n : ℕ) (f g : ℕ → List ℕ) (tiles : List (Option ℕ)) → ((t : ℕ) → t < n → f t ≡ g t) → Tabled n f tiles → Tabled n g tiles
-tabled_as n f g tiles same h = (λ t k l i. h.0 t k l i ∙ ap (λ us. slice_get us k) (same t l), h.1)
+pub rowed : (us : List ℕ) (row : List (Option ℕ)) → length row ≡ 6 → length us ≤ 6 → ((k : ℕ) → k < 6 → get_or row k None ≡ slice_get us k) → Rowed us row
+rowed us row long few same = (
+  long,
+  λ k. elim (cases_lt k 6) [
+    | inl l ↦ same k l
+    | inr l ↦ get_or_past row k None (omega arith) ∙ sym (slice_get_past us k (omega arith))
+  ],
+)
+
+module _ (test : ℕ → Bool) where
+  pub those_none : those test (below 0) ≡ []
+  unfolding those below
+  those_none = refl
+
+  -- one more than m that pass
+  pub those_past : (m other n : ℕ) → test other ≡ true → length (those test (below other)) ≡ m → other < n → ltb m (length (those test (below n))) ≡ true
+  those_past m other n passes full low =
+      lt-ltb m (length (those test (below n)))
+      (omega (arith, ap length (those_more_yes test other passes), length_push (those test (below other)) other, length-those_le test (other + 1) n (omega arith)))
+
+one_value : {X : Type 0} (n i : ℕ) (d : X) → get_or (replicate n d) i d ≡ d
+one_value n i d = elim (cases_lt i n) [ inl l ↦ get_or-replicate n i d d l | inr l ↦ get_or_past (replicate n d) i d (omega (arith, length-replicate n d)) ]
+
+-- rows that hold one value alone, also past their ends
+pub same_rows : {X : Type 0} (m n : ℕ) (d : X) (a b : ℕ) → get_or (get_or (replicate m (replicate n d)) a []) b d ≡ d
+same_rows m n d a b = elim (cases_lt a m) [
+  | inl l ↦ ap (λ row. get_or row b d) (get_or-replicate m a (replicate n d) [] l) ∙ one_value n b d
+  | inr l ↦ ap (λ row. get_or row b d) (get_or_past (replicate m (replicate n d)) a [] (omega (arith, length-replicate m (replicate n d))))
+]
 
 -- nothing is listed yet
-pub tabled_none : (joined_to : ℕ → List ℕ) (tiles : List (Option ℕ)) → ((j : ℕ) → get_or tiles j None ≡ None) → Tabled 0 joined_to tiles
-tabled_none joined_to tiles empty = (λ t k l h. absurd (omega arith), λ j l. empty j)
+pub tabled_none : (joined_to : ℕ → List ℕ) (m n : ℕ) → Tabled 0 joined_to (replicate m (replicate n None))
+tabled_none joined_to m n = (λ t k l. absurd (omega arith), λ t k l. same_rows m n None t k)
 
-pub empty_places : (m j : ℕ) → ◌≡◌ {A = Option ℕ} (get_or (replicate m None) j None) None
-empty_places m j = elim (cases_lt j m) [ inl l ↦ get_or-replicate m j None None l | inr l ↦ get_or_past (replicate m None) j None (omega (arith, length-replicate {A = Option ℕ} m None)) ]
+pub six_none : SixPlaces (replicate 256 (replicate 6 None))
+six_none t l = ap length (get_or-replicate 256 t (replicate 6 None) [] l) ∙ length-replicate {A = Option ℕ} 6 None
 
-pub none_below : (n m : ℕ) → Below n (replicate m None)
-none_below n m j u e = let never : ◌≡◌ {A = Option ℕ} None (Some u) = sym (empty_places m j) ∙ e in let z : ◌≡◌ {A = ℕ} 0 1 = cc in omega arith
-
--- Of the tiles joined to `tile`, those below `other` are listed, `count` in number; the rows before it are whole, and
--- nothing stands behind it.
-pub record Listing (joined_to : ℕ → List ℕ) (test : ℕ → Bool) (n tile other count : ℕ) (tiles : List (Option ℕ)) : Type 0 where
-  pub counted : count ≡ length (those test (below other))
-  pub few : count ≤ 6
-  pub earlier : (t k : ℕ) → t < tile → k < 6 → get_or tiles (t * 6 + k) None ≡ slice_get (joined_to t) k
-  pub here : (k : ℕ) → k < 6 → get_or tiles (tile * 6 + k) None ≡ slice_get (those test (below other)) k
-  pub beyond : (j : ℕ) → (tile + 1) * 6 ≤ j → get_or tiles j None ≡ None
-  pub below_all : Below n tiles
-
--- the same under other names
-pub listing_as : {joined_to : ℕ → List ℕ} {test : ℕ → Bool} {n tile other count count' : ℕ} {tiles tiles' : List (Option ℕ)} → Listing joined_to test n tile other count tiles → count' ≡ count → tiles' ≡ tiles → Listing joined_to test n tile other count' tiles'
-listing_as {joined_to} {test} {n} {tile} {other} {count} {count'} {tiles} {tiles'} l c t =
-    subst (λ m. Listing joined_to test n tile other m tiles') (sym c) (subst (λ ts. Listing joined_to test n tile other count ts) (sym t) l)
-
-those_none : (test : ℕ → Bool) → those test (below 0) ≡ []
-unfolding those below
-those_none test = refl
-
-pub listing_start : (joined_to : ℕ → List ℕ) (test : ℕ → Bool) (n tile : ℕ) (tiles : List (Option ℕ)) → Tabled tile joined_to tiles → Below n tiles → Listing joined_to test n tile 0 0 tiles
-listing_start joined_to test n tile tiles before low = record {
-  counted = sym (ap length (those_none test));
-  few = omega arith;
-  earlier = before.0;
-  here = λ k l. before.1 (tile * 6 + k) (omega arith) ∙ sym (ap (λ us. slice_get us k) (those_none test));
-  beyond = λ j l. before.1 j (omega arith);
-  below_all = low;
-}
-
-module _ {joined_to : ℕ → List ℕ} {test : ℕ → Bool} {n tile other count : ℕ} {tiles : List (Option ℕ)} (l : Listing joined_to test n tile other count tiles) where
-  pub listing_skip : test other ≡ false → Listing joined_to test n tile (other + 1) count tiles
-  listing_skip no_join =
-      let same = those_more_no test other no_join in
-      record {
-        counted = l.counted ∙ sym (ap length same);
-        few = l.few;
-        earlier = l.earlier;
-        here = λ k h. l.here k h ∙ sym (ap (λ us. slice_get us k) same);
-        beyond = l.beyond;
-        below_all = l.below_all;
-      }
-
-  -- a seventh tile
-  pub listing_full : test other ≡ true → count ≡ 6 → other < n → false ≡ leb (length (those test (below n))) 6
-  listing_full join six low =
-      sym (lt-leb (length (those test (below n))) 6
-      (omega (arith, l.counted, ap length (those_more_yes test other join), length_push (those test (below other)) other, length-those_le test (other + 1) n (omega arith))))
-
-  module _ (join : test other ≡ true) (room : count ≡ 6 → ⊥) (low : other < n) (long : length tiles ≡ 1530) (small : tile < 255) where
-    abbrev at : ℕ
-    at = tile * 6 + count
-
-    abbrev after : List (Option ℕ)
-    after = set tiles at (Some other)
-
-    now_there : get_or after at None ≡ Some other
-    now_there = get_or-set_same tiles at (Some other) None (omega (arith, l.few))
-
-    as_before : (j : ℕ) → (j ≡ at → ⊥) → get_or after j None ≡ get_or tiles j None
-    as_before j differs = get_or-set_other tiles at j (Some other) None differs
-
-    more : those test (below (other + 1)) ≡ those test (below other) ++ other ∷ []
-    more = those_more_yes test other join
-
-    here_after : (k : ℕ) → k < 6 → get_or after (tile * 6 + k) None ≡ slice_get (those test (below (other + 1))) k
-    here_after k h = elim (cases_eq k count) [
-      | inl e ↦ ap (λ i. get_or after (tile * 6 + i) None) e ∙ now_there
-          ∙ sym (ap (λ us. slice_get us k) more ∙ ap (slice_get (those test (below other) ++ other ∷ [])) (e ∙ l.counted) ∙ nth_last (those test (below other)) other)
-      | inr differs ↦ as_before (tile * 6 + k) (λ e. differs (omega arith)) ∙ l.here k h
-          ∙ sym (ap (λ us. slice_get us k) more ∙ nth_others (those test (below other)) other k (λ e. differs (e ∙ sym l.counted)))
-    ]
-
-    below_after : Below n after
-    below_after j u e = elim (cases_eq j at) [
-      | inl same ↦ let is : Some other ≡ Some u = sym now_there ∙ sym (ap (λ i. get_or after i None) same) ∙ e in let which : other ≡ u = cc in omega arith
-      | inr differs ↦ l.below_all j u (sym (as_before j differs) ∙ e)
-    ]
-
-    pub listing_more : Listing joined_to test n tile (other + 1) (count + 1) after
-    listing_more = record {
-      counted = omega (arith, l.counted, ap length more, length_push (those test (below other)) other);
-      few = omega (arith, l.few);
-      earlier = λ t k h i. as_before (t * 6 + k) (λ e. omega (arith, l.few)) ∙ l.earlier t k h i;
-      here = here_after;
-      beyond = λ j h. as_before j (λ e. omega (arith, l.few)) ∙ l.beyond j h;
-      below_all = below_after;
-    }
-
-  pub listing_all : other ≡ n → joined_to tile ≡ those test (below n) → Tabled (tile + 1) joined_to tiles
-  listing_all all is = (
-    λ t k h i. elim (cases_eq t tile) [
-      | inl e ↦ ap (λ u. get_or tiles (u * 6 + k) None) e ∙ l.here k i ∙ ap (λ m. slice_get (those test (below m)) k) all ∙ sym (ap (λ us. slice_get us k) (ap joined_to e ∙ is))
-      | inr differs ↦ l.earlier t k (omega arith) i
-    ],
-    l.beyond,
-  )
-
-  pub listing_room : other ≡ n → true ≡ leb (length (those test (below n))) 6
-  listing_room all = sym (le-leb (length (those test (below n))) 6 (omega (arith, l.few, l.counted, ap (λ m. length (those test (below m))) all)))
-
--- more than six, or not
-pub six_more : (m : ℕ) → leb m 6 ≡ false → ltb 6 m ≡ true
-six_more m e = lt-ltb 6 m (leb-false m 6 e)
-
-pub six_most : (m : ℕ) → leb m 6 ≡ true → ltb 6 m ≡ false
-six_most m e = le-ltb 6 m (leb-true m 6 e)
+-- the tiles that are listed are of those below n
+pub tabled_below : (n : ℕ) (test : ℕ → ℕ → Bool) (tiles : List (List (Option ℕ))) → Tabled n (λ t. those (test t) (below n)) tiles → (t k u : ℕ) → at_place tiles t k ≡ Some u → u < n
+tabled_below n test tiles h t k u e = elim (cases_lt t n) [
+  | inl l ↦
+      let us = those (test t) (below n) in
+      let is : slice_get us k ≡ Some u = sym (h.0 t k l) ∙ e in
+      let among = (some_in (eqb u) us 0).1 (k, slice_get_within us k u is, eq-eqb u (get_or us k 0) (sym (get_or_from_slice_get us k u 0 is))) in
+      ((those_among (test t) n u).0 among).0
+  | inr l ↦ absurd (some_not_none e (h.1 t k l))
+]

@@ -1,26 +1,20 @@
 -- What a drawn floor keeps of its joined tiles, links, pulls and reach.
-use Rattle.std.specs.Prelude.{◌≡◌, ℕ, ◌*◌, ◌/◌, ◌%◌, ◌<◌, true, List, None, Option, slice_index_or}
+use Rattle.std.specs.Prelude.{◌≡◌, ℕ, ◌<◌, true, List, Option}
 use Rattle.std.specs.List.{slice_get}
 use Rattle.base.specs.Lists.{greatest}
 use Rattle.floor.specs.Drawn.{stands_surveyed}
 use Rattle.floor.specs.Links.{pairs_of, linked_to}
 use Rattle.floor.specs.Survey.{distances}
-use Rattle.drawn_floor.specs.Tables.{same_hold}
+use Rattle.drawn_floor.specs.Tables.{at_place}
 
 -- size, links and pulls stand as a granted survey leaves them
 abbrev pub Stands : ℕ → List ℕ → List ℕ → Type 0
 Stands n links pulls = stands_surveyed n links pulls ≡ true
 
--- place j of the table holds, of the tiles joined to j / 6, that at place j % 6
-abbrev pub InPlace : ℕ → List ℕ → List (Option ℕ) → Type 0
-InPlace n links tiles = (j : ℕ) → j < n * 6 → same_hold (slice_index_or tiles j None) (slice_get (linked_to n (pairs_of links) (j / 6)) (j % 6)) ≡ true
+-- the row of tile t holds at place k, of the tiles joined to t, that at place k
+abbrev pub InPlace : ℕ → List ℕ → List (List (Option ℕ)) → Type 0
+InPlace n links tiles = (t k : ℕ) → t < n → at_place tiles t k ≡ slice_get (linked_to n (pairs_of links) t) k
 
 -- the greatest of all distances
 abbrev pub IsReach : ℕ → List ℕ → ℕ → Type 0
 IsReach n links reach = reach ≡ greatest (distances n links)
-
--- all of it
-pub record Kept (n : ℕ) (tiles : List (Option ℕ)) (links pulls : List ℕ) (reach : ℕ) : Type 0 where
-  pub stands : Stands n links pulls
-  pub placed : InPlace n links tiles
-  pub far : IsReach n links reach

@@ -1,13 +1,13 @@
 ghost use Rattle.std.specs.Prelude.{◌≡◌, ℕ, ◌+◌, ◌*◌, ◌<◌, ◌≤◌, true, false, length, is_some, IfSome, None, Decides, slice_index};
 ghost use Rattle.base.specs.Lists.{greatest};
 ghost use Rattle.floor.specs.Drawn.{stands_surveyed};
-ghost use Rattle.drawn_floor.specs.Kept.{Kept};
+ghost use Rattle.floor.specs.Walks.{Shortest};
 ghost use Rattle.drawn_floor.specs.Rings.{ring_links, ring_pulls};
-ghost use Rattle.drawn_floor.specs.Searches.{Passes, Filled, Found};
+ghost use Rattle.drawn_floor.specs.Searches.{Passes};
 
+use crate::drawing::Drawing;
 use crate::drawn::DrawnFloor;
 use crate::joined_tiles::JoinedTiles;
-use crate::search::FAR;
 use floor::{Pull, Tile};
 
 static RING_LINKS: [u8; 6] = [0, 1, 1, 2, 0, 2];
@@ -15,27 +15,23 @@ static RING_LINKS: [u8; 6] = [0, 1, 1, 2, 0, 2];
 static RING_PULLS: [Pull; 9] = [0, 1, 1, 1, 0, 1, 1, 1, 0];
 
 impl JoinedTiles {
-    // Whether the numbers are what a search finds for this goal.
+    // Whether the numbers are the steps of shortest walks to this goal.
     fn row_agrees(&self, goal: Tile, numbers: &[Pull]) -> bool
         requires goal { goal < self.now.size }
         requires long { length numbers.now ≡ self.now.size }
-        ensures { Decides result (Filled (Passes self.now.tiles None) self.now.size goal numbers.now) }
+        ensures { Decides result ((t : ℕ) → t < self.now.size → Shortest (Passes self.now.tiles None) t goal (slice_index numbers.now t)) }
     {
-        let mut space = [FAR; 255];
-        let row = &mut space[0..self.size as usize];
-        self.search(goal, None, row);
-        for tile in 0..self.size as usize {
-            if row[tile] != numbers[tile] {
-                return false;
-            }
-        }
-        true
+        let steps = self.search(goal, None);
+        numbers
+            .iter()
+            .zip(&steps)
+            .all(|(number, steps)| *steps == Some(*number))
     }
 
-    // Whether the numbers hold for each goal what a search finds for it.
+    // Whether the numbers are the steps of shortest walks, for each goal.
     fn agrees(&self, numbers: &[Pull]) -> bool
         requires { self.now.size * self.now.size ≤ length numbers.now }
-        ensures { Decides result ((g t : ℕ) → g < self.now.size → t < self.now.size → Found (Passes self.now.tiles None) self.now.size t g (slice_index numbers.now (g * self.now.size + t))) }
+        ensures { Decides result ((g t : ℕ) → g < self.now.size → t < self.now.size → Shortest (Passes self.now.tiles None) t g (slice_index numbers.now (g * self.now.size + t))) }
     {
         let width = self.size as usize;
         for goal in 0..self.size {
@@ -52,58 +48,40 @@ impl JoinedTiles {
 fn greatest_of(numbers: &[Pull]) -> Pull
     ensures { result ≡ greatest numbers.now }
 {
-    let mut most = 0;
-    for number in numbers {
-        if *number > most {
-            most = *number;
-        }
-    }
-    most
-}
-
-// The joined tiles and the reach of the floor that these make, if they stand as a granted survey leaves them.
-fn standing(size: Tile, links: &[u8], pulls: &[Pull]) -> Option<(JoinedTiles, Pull)>
-    ensures answer { is_some result ≡ stands_surveyed size links.now pulls.now }
-    ensures size { IfSome result (λ x. x.0.size ≡ size) }
-    ensures kept { IfSome result (λ x. Kept x.0.size x.0.tiles links.now pulls.now x.1) }
-{
-    let Ok(joined) = JoinedTiles::drawn(size, links) else {
-        return None;
-    };
-    let places = size as usize * size as usize;
-    if pulls.len() < places {
-        return None;
-    }
-    if !joined.agrees(pulls) {
-        return None;
-    }
-    Some((joined, greatest_of(&pulls[0..places])))
-}
-
-// The joined tiles of the ring of three.
-fn ring_tiles() -> JoinedTiles
-    ensures size { result.size ≡ 3 }
-    ensures kept { Kept result.size result.tiles ring_links ring_pulls 1 }
-{
-    match JoinedTiles::drawn(3, &RING_LINKS) {
-        Ok(joined) => joined,
-        Err(_) => unreachable(),
-    }
+    numbers.iter().copied().max().unwrap_or(0)
 }
 
 impl<'a> DrawnFloor<'a> {
+    // The floor of a drawing with these pulls, if they stand as a granted survey leaves them.
+    fn standing(drawing: Drawing<'a>, pulls: &'a [Pull]) -> Option<DrawnFloor<'a>>
+        ensures answer { is_some result ≡ stands_surveyed drawing.entry.size drawing.entry.links.now pulls.now }
+        ensures made { IfSome result (λ f. (f.joined.size ≡ drawing.entry.size) × (f.links.now ≡ drawing.entry.links.now) × (f.pulls.now ≡ pulls.now)) }
+    {
+        let joined = drawing.floor().ok()?;
+        let places = drawing.size as usize * drawing.size as usize;
+        if pulls.len() < places || !joined.agrees(pulls) {
+            return None;
+        }
+        Some(DrawnFloor {
+            joined,
+            links: drawing.links,
+            pulls,
+            reach: greatest_of(&pulls[..places]),
+        })
+    }
+
     // A ring of three tiles.
+    #[tactic(auto, using(crate::proofs::Adopting::ring_stands))]
     pub fn ring() -> DrawnFloor<'a>
         ensures size { result.joined.size ≡ 3 }
         ensures links { result.links.now ≡ ring_links }
         ensures pulls { result.pulls.now ≡ ring_pulls }
     {
-        DrawnFloor {
-            joined: ring_tiles(),
+        let ring = Drawing {
+            size: 3,
             links: &RING_LINKS,
-            pulls: &RING_PULLS,
-            reach: 1,
-        }
+        };
+        DrawnFloor::standing(ring, &RING_PULLS).unwrap()
     }
 
     // Becomes the floor of these tiles, links and pulls, if they stand as a granted survey leaves them. Else the answer
@@ -113,16 +91,10 @@ impl<'a> DrawnFloor<'a> {
         ensures became { result ≡ true → (self.new.joined.size ≡ size) × (self.new.links.now ≡ links.now) × (self.new.pulls.now ≡ pulls.now) }
         ensures same { result ≡ false → self.new ≡ self.old }
     {
-        let Some(found) = standing(size, links, pulls) else {
+        let Some(floor) = DrawnFloor::standing(Drawing { size, links }, pulls) else {
             return false;
         };
-        let (joined, reach) = found;
-        *self = DrawnFloor {
-            joined,
-            links,
-            pulls,
-            reach,
-        };
+        *self = floor;
         true
     }
 }

@@ -1,53 +1,94 @@
-ghost use Rattle.std.specs.Prelude.{◌≡◌, IfOk};
+ghost use Rattle.std.specs.Prelude.{◌≡◌, ◌≤◌, ◌||◌, IfOk, ◌==◌, nat_le};
 ghost use Rattle.std.specs.Result.{result_err};
 ghost use Rattle.base.specs.Refusals.{first_refusal};
 ghost use Rattle.floor.specs.Links.{pairs_of, linked_to};
-ghost use Rattle.floor.specs.Survey.{link_tests, drawing_refusal};
+ghost use Rattle.floor.specs.Survey.{names_stranger, names_itself, link_tests, drawing_refusal};
 ghost use Rattle.drawn_floor.specs.Tables.{Tabled};
 
 use crate::joined_tiles::JoinedTiles;
-use crate::links::{any_self_pair, any_stranger};
-use crate::marks::{MARKS, mark_again};
+use crate::links::Pairs;
+use crate::marks::Marks;
 use base::Refusal;
 use floor::Tile;
 
-impl JoinedTiles {
-    // The tiles that the links join, where the links pass the tests that need no walk.
-    fn from_links(size: Tile, links: &[u8]) -> Result<JoinedTiles, Refusal>
-        ensures answer { result_err result ≡ first_refusal (link_tests size links.now) }
-        ensures made { IfOk result (λ j. (j.size ≡ size) × Tabled size (linked_to size (pairs_of links.now)) j.tiles) }
+// A drawing: tiles from 0 to `size` - 1, and links, of which every two bytes name two joined tiles.
+#[derive(Clone, Copy)]
+pub(crate) struct Drawing<'a> {
+    pub(crate) size: Tile,
+    pub(crate) links: &'a [u8],
+}
+
+impl<'a> Drawing<'a> {
+    fn pairs(&self) -> Pairs<'a>
+        ensures { pairs_of result.links.now ≡ pairs_of self.now.links.now }
     {
-        if size < 3 {
+        Pairs { links: self.links }
+    }
+
+    // Whether some pair names a tile that is not one of the drawing.
+    fn names_stranger(&self) -> bool
+        ensures { result ≡ names_stranger self.now.size (pairs_of self.now.links.now) }
+    {
+        let size = self.size;
+        self.pairs().any(|pair| is_stranger(size, pair))
+    }
+
+    // Whether some pair names one tile twice.
+    fn names_itself(&self) -> bool
+        ensures { result ≡ names_itself (pairs_of self.now.links.now) }
+    {
+        self.pairs().any(is_self_pair)
+    }
+
+    // The tiles that the links join, where the links pass the tests that need no walk.
+    fn joined_tiles(&self) -> Result<JoinedTiles, Refusal>
+        ensures answer { result_err result ≡ first_refusal (link_tests self.now.size self.now.links.now) }
+        ensures made { IfOk result (λ j. (j.size ≡ self.now.size) × Tabled self.now.size (linked_to self.now.size (pairs_of self.now.links.now)) j.tiles) }
+    {
+        if self.size < 3 {
             return Err(Refusal::Size);
         }
-        if links.len() % 2 == 1 {
+        if self.links.len() % 2 == 1 {
             return Err(Refusal::Ragged);
         }
-        if any_stranger(size, links) {
+        if self.names_stranger() {
             return Err(Refusal::Stranger);
         }
-        if any_self_pair(links) {
+        if self.names_itself() {
             return Err(Refusal::SelfPair);
         }
-        let mut marks = [false; MARKS];
-        if mark_again(links, &mut marks) {
-            return Err(Refusal::Twice);
-        }
-        JoinedTiles::from_marks(size, &marks).ok_or(Refusal::Crowded)
+        let marks = Marks::of(self.pairs()).ok_or(Refusal::Twice)?;
+        JoinedTiles::marked(self.size, &marks).ok_or(Refusal::Crowded)
     }
 
     // The tiles that the links join, where these make a floor; else why they make none.
-    pub(crate) fn drawn(size: Tile, links: &[u8]) -> Result<JoinedTiles, Refusal>
-        ensures answer { result_err result ≡ drawing_refusal size links.now }
-        ensures made { IfOk result (λ j. (j.size ≡ size) × Tabled size (linked_to size (pairs_of links.now)) j.tiles) }
+    pub(crate) fn floor(&self) -> Result<JoinedTiles, Refusal>
+        ensures answer { result_err result ≡ drawing_refusal self.now.size self.now.links.now }
+        ensures made { IfOk result (λ j. (j.size ≡ self.now.size) × Tabled self.now.size (linked_to self.now.size (pairs_of self.now.links.now)) j.tiles) }
     {
-        let joined = JoinedTiles::from_links(size, links)?;
+        let joined = self.joined_tiles()?;
         if joined.is_split() {
             return Err(Refusal::Split);
         }
-        if joined.has_neck(links) {
+        if joined.has_neck(self.pairs()) {
             return Err(Refusal::Neck);
         }
         Ok(joined)
     }
+}
+
+// Whether a pair names a tile that is not below `size`.
+fn is_stranger(size: Tile, pair: (Tile, Tile)) -> bool
+    ensures { result ≡ (nat_le size pair.0 || nat_le size pair.1) }
+{
+    let (a, b) = pair;
+    a >= size || b >= size
+}
+
+// Whether a pair names one tile twice.
+fn is_self_pair(pair: (Tile, Tile)) -> bool
+    ensures { result ≡ (pair.0 == pair.1) }
+{
+    let (a, b) = pair;
+    a == b
 }

@@ -1,19 +1,25 @@
-ghost use Rattle.std.specs.Prelude.{◌≡◌, ℕ, ◌<◌, length, Some, None, slice_index_or};
+ghost use Rattle.std.specs.Prelude.{◌≡◌, ℕ, ◌<◌, ◌≤◌, length, Some};
+ghost use Rattle.drawn_floor.specs.Tables.{at_place, SixPlaces};
 
 use floor::Tile;
 
 // The most tiles that may be joined to one tile.
 pub(crate) const MOST: usize = 6;
 
-// Six places for each of 255 tiles.
-pub(crate) const PLACES: usize = 1530;
+// A place for each number that a tile can have.
+pub(crate) const TILES: usize = 256;
 
-// The tiles that are joined to each tile of a floor of `size` tiles: those of tile t stand at the places 6 * t to
-// 6 * t + 5, ascending, and the places that are left hold none.
+// The tiles that are joined to one tile, ascending; the places that are left hold none.
+pub(crate) type Row = [Option<Tile>; MOST];
+
+// The tiles that are joined to each tile of a floor of `size` tiles.
 #[derive(Clone, Copy)]
 pub struct JoinedTiles {
     pub(crate) size: Tile,
-    pub(crate) tiles: [Option<Tile>; PLACES],
-    ghost long: { length tiles ≡ 1530 },
-    ghost below: { (j u : ℕ) → slice_index_or tiles j None ≡ Some u → u < size },
+    pub(crate) tiles: [Row; TILES],
+    ghost least: { 3 ≤ size },
+    ghost fits: { size < 256 },
+    ghost long: { length tiles ≡ 256 },
+    ghost wide: { SixPlaces tiles },
+    ghost below: { (t k u : ℕ) → at_place tiles t k ≡ Some u → u < size },
 }

@@ -6,7 +6,6 @@ pub mod drawing;
 pub mod drawn;
 pub mod joined_tiles;
 pub mod links;
-pub mod listing;
 pub mod marks;
 pub mod questions;
 pub mod search;

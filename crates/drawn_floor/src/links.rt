@@ -1,53 +1,27 @@
-ghost use Rattle.std.specs.Prelude.{◌≡◌, ◌+◌, ◌*◌, ◌/◌, ◌<◌, ◌||◌, length, ◌==◌, nat_le, slice_index_or};
+ghost use Rattle.std.specs.Iterator.{YieldsFirst, item_count};
 ghost use Rattle.floor.specs.Links.{pairs_of};
-ghost use Rattle.floor.specs.Survey.{names_stranger, names_itself};
 
 use floor::Tile;
 
-// The pair of joined tiles at place `k` of the links, of which every two bytes name one.
-pub(crate) fn pair_at(links: &[u8], k: usize) -> (Tile, Tile)
-    requires { k < length links.now / 2 }
-    ensures { result ≡ slice_index_or (pairs_of links.now) k (0, 0) }
-{
-    (links[2 * k], links[2 * k + 1])
+// The pairs of joined tiles that links name, one after the other: every two bytes name one, and an odd byte at the end
+// names none.
+#[derive(Drop)]
+pub(crate) struct Pairs<'a> {
+    pub(crate) links: &'a [u8],
 }
 
-// Whether a pair names a tile that is not below `size`.
-fn is_stranger(size: Tile, pair: (Tile, Tile)) -> bool
-    ensures { result ≡ (nat_le size pair.0 || nat_le size pair.1) }
-{
-    let (a, b) = pair;
-    a >= size || b >= size
-}
+impl<'a> Iterator for Pairs<'a> {
+    type Item = (Tile, Tile);
 
-// Whether a pair names one tile twice.
-fn is_self_pair(pair: (Tile, Tile)) -> bool
-    ensures { result ≡ (pair.0 == pair.1) }
-{
-    let (a, b) = pair;
-    a == b
-}
+    ghost next_gives = { YieldsFirst (λ p. pairs_of p.links.now) };
 
-// Whether some pair of the links names a tile that is not below `size`.
-pub(crate) fn any_stranger(size: Tile, links: &[u8]) -> bool
-    ensures { result ≡ names_stranger size (pairs_of links.now) }
-{
-    for k in 0..links.len() / 2 {
-        if is_stranger(size, pair_at(links, k)) {
-            return true;
-        }
+    ghost remaining = { item_count (λ p. pairs_of p.links.now) };
+
+    fn next(&mut self) -> Option<(Tile, Tile)> {
+        let [a, b, rest @ ..] = self.links else {
+            return None;
+        };
+        self.links = rest;
+        Some((*a, *b))
     }
-    false
-}
-
-// Whether some pair of the links names one tile twice.
-pub(crate) fn any_self_pair(links: &[u8]) -> bool
-    ensures { result ≡ names_itself (pairs_of links.now) }
-{
-    for k in 0..links.len() / 2 {
-        if is_self_pair(pair_at(links, k)) {
-            return true;
-        }
-    }
-    false
 }

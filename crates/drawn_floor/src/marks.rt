@@ -1,42 +1,93 @@
-ghost use Rattle.std.specs.Prelude.{◌≡◌, ◌+◌, ◌*◌, true, false, [], slice_set};
-ghost use Rattle.floor.specs.Links.{pairs_of};
+ghost use Rattle.std.specs.Prelude.{◌≡◌, ℕ, ◌≤◌, true, false, ◌&&◌, ◌||◌, ◌==◌, length, IfSome, MatchOption, nat_lt};
+ghost use Rattle.std.specs.List.{slice_get};
+ghost use Rattle.base.specs.Lists.{below, some_is};
+ghost use Rattle.floor.specs.Links.{joins_two, pairs_of};
 ghost use Rattle.floor.specs.Survey.{joins_again};
-ghost use Rattle.drawn_floor.specs.Marks.{marked, Marked};
+ghost use Rattle.drawn_floor.specs.Marks.{marked, Marked, marked_to};
+ghost use Rattle.drawn_floor.specs.Tables.{Rowed, Tabled};
 
-use crate::links::pair_at;
+use crate::joined_tiles::{JoinedTiles, MOST, Row, TILES};
+use crate::links::Pairs;
+use arrayvec::ArrayVec;
 use floor::Tile;
+use std::array;
 
-// One mark for each two tiles, either way round: a and b have the marks 256 * a + b and 256 * b + a.
-pub(crate) const MARKS: usize = 65536;
-
-// Whether two tiles are marked as joined.
-pub(crate) fn is_marked(marks: &[bool; MARKS], pair: (Tile, Tile)) -> bool
-    ensures { result ≡ marked marks.now pair.0 pair.1 }
-{
-    let (a, b) = pair;
-    marks[usize::from(a) * 256 + usize::from(b)]
+// Which tiles are joined: a mark for each two tiles, either way round.
+#[derive(Drop)]
+pub(crate) struct Marks {
+    marks: [[bool; 256]; 256],
 }
 
-fn mark(marks: &mut [bool; MARKS], pair: (Tile, Tile))
-    ensures { marks.new ≡ slice_set (slice_set marks.old (pair.0 * 256 + pair.1) true) (pair.1 * 256 + pair.0) true }
-{
-    let (a, b) = pair;
-    marks[usize::from(a) * 256 + usize::from(b)] = true;
-    marks[usize::from(b) * 256 + usize::from(a)] = true;
-}
-
-// Marks the tiles that the links join. True, and no further, where a pair joins tiles that an earlier pair joins.
-pub(crate) fn mark_again(links: &[u8], marks: &mut [bool; MARKS]) -> bool
-    requires { Marked [] marks.old }
-    ensures again { result ≡ joins_again (pairs_of links.now) }
-    ensures marks { result ≡ false → Marked (pairs_of links.now) marks.new }
-{
-    for k in 0..links.len() / 2 {
-        let pair = pair_at(links, k);
-        if is_marked(marks, pair) {
-            return true;
+impl Marks {
+    // Marks for the tiles that the pairs join; none where two pairs join the same tiles.
+    pub(crate) fn of(pairs: Pairs) -> Option<Marks>
+        ensures { MatchOption result (joins_again (pairs_of pairs.entry.links.now) ≡ true) (λ m. (joins_again (pairs_of pairs.entry.links.now) ≡ false) × Marked (pairs_of pairs.entry.links.now) m.marks) }
+    {
+        let mut marks = Marks {
+            marks: [[false; 256]; 256],
+        };
+        for pair in pairs {
+            if marks.has(pair) {
+                return None;
+            }
+            marks.add(pair);
         }
-        mark(marks, pair);
+        Some(marks)
     }
-    false
+
+    fn has(&self, pair: (Tile, Tile)) -> bool
+        ensures { result ≡ marked self.now.marks pair.0 pair.1 }
+    {
+        let (a, b) = pair;
+        self.marks[usize::from(a)][usize::from(b)]
+    }
+
+    fn add(&mut self, pair: (Tile, Tile))
+        ensures { (x y : ℕ) → marked self.new.marks x y ≡ (marked self.old.marks x y || joins_two pair x y) }
+    {
+        let (a, b) = pair;
+        self.mark(a, b);
+        self.mark(b, a);
+    }
+
+    // Marks `b` in the row of `a`, and not the other way round.
+    fn mark(&mut self, a: Tile, b: Tile)
+        ensures { (x y : ℕ) → marked self.new.marks x y ≡ (marked self.old.marks x y || (a == x && b == y)) }
+    {
+        let row = &mut self.marks[usize::from(a)];
+        row[usize::from(b)] = true;
+    }
+
+    // The tiles below `size` that are marked as joined to `tile`; none where they are more than six.
+    fn row(&self, size: Tile, tile: Tile) -> Option<Row>
+        ensures { MatchOption result (nat_lt 6 (length (marked_to size self.now.marks tile)) ≡ true) (λ row. (nat_lt 6 (length (marked_to size self.now.marks tile)) ≡ false) × Rowed (marked_to size self.now.marks tile) row) }
+    {
+        let mut joined: ArrayVec<Tile, MOST> = ArrayVec::new();
+        for other in 0..size {
+            if self.has((tile, other)) {
+                joined.try_push(other).ok()?;
+            }
+        }
+        let joined = joined.as_slice();
+        Some(array::from_fn(
+            |k|
+                ensures { result ≡ slice_get joined.entry.now k }
+            { joined.get(k).copied() },
+        ))
+    }
+}
+
+impl JoinedTiles {
+    // The tiles that are marked as joined, or none where they are more than six to some tile.
+    pub(crate) fn marked(size: Tile, marks: &Marks) -> Option<JoinedTiles>
+        requires { 3 ≤ size }
+        ensures crowded { MatchOption result (some_is (λ t. nat_lt 6 (length (marked_to size marks.now.marks t))) (below size) ≡ true) (λ _. some_is (λ t. nat_lt 6 (length (marked_to size marks.now.marks t))) (below size) ≡ false) }
+        ensures made { IfSome result (λ j. (j.size ≡ size) × Tabled size (marked_to size marks.now.marks) j.tiles) }
+    {
+        let mut tiles = [[None; MOST]; TILES];
+        for tile in 0..size {
+            tiles[usize::from(tile)] = marks.row(size, tile)?;
+        }
+        Some(JoinedTiles { size, tiles })
+    }
 }

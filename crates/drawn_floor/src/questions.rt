@@ -5,7 +5,6 @@ ghost use Rattle.floor.specs.Walks.{distance};
 ghost use Rattle.floor.proofs.Standing.{standing_laws};
 
 use crate::drawn::DrawnFloor;
-use crate::joined_tiles::MOST;
 use floor::{Floor, Pull, Tile};
 
 impl<'a> Floor for DrawnFloor<'a> {
@@ -31,10 +30,8 @@ impl<'a> Floor for DrawnFloor<'a> {
         if tile >= self.joined.size {
             return None;
         }
-        if k as usize >= MOST {
-            return None;
-        }
-        self.joined.tiles[tile as usize * MOST + k as usize]
+        let row = self.joined.tiles[tile as usize];
+        row.get(k as usize).copied().flatten()
     }
 
     fn pull(&self, tile: Tile, goal: Tile) -> Option<Pull> {

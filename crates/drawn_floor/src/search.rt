@@ -1,72 +1,92 @@
-ghost use Rattle.std.specs.Prelude.{◌≡◌, ℕ, ◌+◌, ◌<◌, length, if◌then◌else◌, nat_eq, slice_index, slice_set};
+ghost use Rattle.std.specs.Prelude.{◌≡◌, ◌+◌, ◌<◌, ◌≤◌, length, replicate, None};
 ghost use Rattle.drawn_floor.specs.Searches.{left_out, Passes, Filled};
-ghost use Rattle.drawn_floor.specs.Underway.{Underway};
+ghost use Rattle.drawn_floor.specs.Spreading.{Behind, HasRoom, Meets, Spreads, unmet};
 
-use crate::joined_tiles::{JoinedTiles, MOST};
+use crate::joined_tiles::{JoinedTiles, TILES};
+use arrayvec::ArrayVec;
 use floor::{Pull, Tile};
+use std::mem;
 
-// No walk was found: no distance on a floor of 255 tiles is that large.
-pub(crate) const FAR: Pull = 65535;
+// How many steps each tile is from the goal of a search; none where the search has not met it.
+pub(crate) type Steps = [Option<Pull>; TILES];
 
-// The tiles that a search has met, in the order in which it met them: the first `count` of `tiles`.
+// Tiles that are equally far from a goal.
+type Layer = ArrayVec<Tile, TILES>;
+
+// A search that spreads from its goal, layer by layer.
 #[derive(Drop)]
-struct Queue {
-    tiles: [Tile; 255],
-    count: usize,
+struct Search {
+    steps: Steps,
+    // the steps of the tiles that the search met last, and these tiles
+    far: Pull,
+    layer: Layer,
 }
 
 impl JoinedTiles {
-    // For each tile the steps of a shortest walk to `goal` that does not use the pair `cut`, or FAR where there is none.
-    pub(crate) fn search(&self, goal: Tile, cut: Option<(Tile, Tile)>, row: &mut [Pull])
-        requires long { length row.old ≡ self.now.size }
-        requires goal { goal < self.now.size }
-        ensures { Filled (Passes self.now.tiles cut) self.now.size goal row.new }
+    // For each tile the steps of a shortest walk to `goal` that does not use the pair `cut`; none where there is no walk.
+    pub(crate) fn search(&self, goal: Tile, cut: Option<(Tile, Tile)>) -> Steps
+        requires { goal < self.now.size }
+        ensures { Filled (Passes self.now.tiles cut) goal result }
     {
-        set_far(self.size, row);
-        row[usize::from(goal)] = 0;
-        let mut queue = Queue {
-            tiles: [goal; 255],
-            count: 1,
-        };
-        let mut at = 0;
-        while at < queue.count {
-            self.spread(at, cut, row, &mut queue);
-            at += 1;
+        let mut search = Search::begun(goal);
+        while !search.layer.is_empty() {
+            search.spread(self, cut);
         }
-    }
-
-    // Goes on from the tile at the place `at` of the queue: meets each tile that is joined to it and was not met before.
-    fn spread(&self, at: usize, cut: Option<(Tile, Tile)>, row: &mut [Pull], queue: &mut Queue)
-        requires underway { Underway (Passes self.now.tiles cut) self.now.size (slice_index queue.old.tiles 0) row.old queue.old.tiles at queue.old.count }
-        requires more { at < queue.old.count }
-        ensures { Underway (Passes self.now.tiles cut) self.now.size (slice_index queue.old.tiles 0) row.new queue.new.tiles (at + 1) queue.new.count }
-    {
-        let tile = queue.tiles[at];
-        let steps = row[usize::from(tile)] + 1;
-        for k in 0..MOST {
-            let joined = self.tiles[usize::from(tile) * MOST + k];
-            if let Some(next) = joined {
-                if !is_left_out(cut, tile, next) {
-                    queue.meet(next, steps, row);
-                }
-            }
-        }
+        search.steps
     }
 }
 
-impl Queue {
-    // Notes that `tile`, if it was not met before, is so many steps from the goal.
-    fn meet(&mut self, tile: Tile, steps: Pull, row: &mut [Pull])
-        requires within { tile < length row.old }
-        requires room { slice_index row.old tile ≡ 65535 → self.old.count < length self.old.tiles }
-        ensures row { row.new ≡ (if nat_eq (slice_index row.old tile) 65535 then slice_set row.old tile steps else row.old) }
-        ensures tiles { self.new.tiles ≡ (if nat_eq (slice_index row.old tile) 65535 then slice_set self.old.tiles self.old.count tile else self.old.tiles) }
-        ensures count { self.new.count ≡ (if nat_eq (slice_index row.old tile) 65535 then self.old.count + 1 else self.old.count) }
+impl Search {
+    // A search that has met its goal alone.
+    fn begun(goal: Tile) -> Search
+        ensures far { result.far ≡ 0 }
+        ensures spreads { Spreads (λ u. u ≡ goal) 0 (replicate 256 None) result.steps result.layer.items }
     {
-        if row[usize::from(tile)] == FAR {
-            row[usize::from(tile)] = steps;
-            self.tiles[self.count] = tile;
-            self.count += 1;
+        let mut search = Search {
+            steps: [None; TILES],
+            far: 0,
+            layer: ArrayVec::new(),
+        };
+        search.meet(goal);
+        search
+    }
+
+    // Meets the tiles that are joined to those of the layer, which become the next layer.
+    fn spread(&mut self, joined: &JoinedTiles, cut: Option<(Tile, Tile)>)
+        requires few { self.old.far + (unmet self.old.steps + length self.old.layer.items) ≤ 256 }
+        requires some { 0 < length self.old.layer.items }
+        ensures far { self.new.far ≡ self.old.far + 1 }
+        ensures spreads { Spreads (Behind (Passes joined.now.tiles cut) self.old.layer.items) self.new.far self.old.steps self.new.steps self.new.layer.items }
+    {
+        let layer = mem::replace(&mut self.layer, ArrayVec::new());
+        self.far += 1;
+        for tile in layer.as_slice() {
+            self.meet_joined(joined, cut, *tile);
+        }
+    }
+
+    // Meets the tiles that are joined to `tile`, but not by the pair `cut`.
+    fn meet_joined(&mut self, joined: &JoinedTiles, cut: Option<(Tile, Tile)>, tile: Tile)
+        requires { HasRoom self.old }
+        ensures { Meets (λ u. Passes joined.now.tiles cut u tile) self.old self.new }
+    {
+        for place in &joined.tiles[usize::from(tile)] {
+            if let Some(next) = place
+                && !is_left_out(cut, tile, *next)
+            {
+                self.meet(*next);
+            }
+        }
+    }
+
+    // Notes how far `tile` is from the goal, unless it was met before.
+    fn meet(&mut self, tile: Tile)
+        requires { HasRoom self.old }
+        ensures { Meets (λ u. u ≡ tile) self.old self.new }
+    {
+        if self.steps[usize::from(tile)].is_none() {
+            self.steps[usize::from(tile)] = Some(self.far);
+            self.layer.push(tile);
         }
     }
 }
@@ -75,18 +95,5 @@ impl Queue {
 fn is_left_out(cut: Option<(Tile, Tile)>, a: Tile, b: Tile) -> bool
     ensures { result ≡ left_out cut a b }
 {
-    match cut {
-        Some((x, y)) => (x == a && y == b) || (x == b && y == a),
-        None => false,
-    }
-}
-
-// Writes FAR for each of `size` tiles: none was met yet.
-fn set_far(size: Tile, row: &mut [Pull])
-    requires { length row.old ≡ size }
-    ensures { (t : ℕ) → t < size → slice_index row.new t ≡ 65535 }
-{
-    for tile in 0..usize::from(size) {
-        row[tile] = FAR;
-    }
+    cut == Some((a, b)) || cut == Some((b, a))
 }

@@ -2,23 +2,39 @@ ghost use Rattle.std.specs.Prelude.{◌≡◌, ℕ, ◌+◌, ◌*◌, ◌<◌, �
 ghost use Rattle.std.specs.Result.{result_err};
 ghost use Rattle.floor.specs.Drawn.{Surveyed, stands_surveyed};
 ghost use Rattle.floor.specs.Survey.{survey_refusal, after_survey};
-ghost use Rattle.drawn_floor.specs.Searches.{Passes, Found};
+ghost use Rattle.floor.specs.Walks.{Shortest};
+ghost use Rattle.drawn_floor.specs.Searches.{Passes};
 
+use crate::drawing::Drawing;
 use crate::joined_tiles::JoinedTiles;
 use base::Refusal;
 use floor::{Pull, Tile};
 
 impl JoinedTiles {
-    // Writes to place g * n + t, for each of the n tiles t and g, the steps of a shortest walk from t to g.
+    // Writes for each tile that has a walk to the goal the steps of a shortest one.
+    fn measure_to(&self, goal: Tile, row: &mut [Pull])
+        requires goal { goal < self.now.size }
+        requires long { length row.old ≡ self.now.size }
+        ensures { (t d : ℕ) → t < self.now.size → Shortest (Passes self.now.tiles None) t goal d → slice_index row.new t ≡ d }
+    {
+        let found = self.search(goal, None);
+        for (tile, place) in row.iter_mut().enumerate() {
+            if let Some(steps) = found[tile] {
+                *place = steps;
+            }
+        }
+    }
+
+    // Writes to place g * n + t, for each of the n tiles t and g, the steps of a shortest walk from t to g, if there is one.
     fn measure(&self, distances: &mut [Pull])
         requires { self.now.size * self.now.size ≤ length distances.old }
-        ensures found { (g t : ℕ) → g < self.now.size → t < self.now.size → Found (Passes self.now.tiles None) self.now.size t g (slice_index distances.new (g * self.now.size + t)) }
+        ensures found { (g t d : ℕ) → g < self.now.size → t < self.now.size → Shortest (Passes self.now.tiles None) t g d → slice_index distances.new (g * self.now.size + t) ≡ d }
         ensures beyond { drop (self.now.size * self.now.size) distances.new ≡ drop (self.now.size * self.now.size) distances.old }
     {
         let width = self.size as usize;
         for goal in 0..self.size {
             let start = goal as usize * width;
-            self.search(goal, None, &mut distances[start..start + width]);
+            self.measure_to(goal, &mut distances[start..start + width]);
         }
     }
 }
@@ -31,7 +47,7 @@ pub fn survey(size: Tile, links: &[u8], distances: &mut [Pull]) -> Result<(), Re
     ensures means { Surveyed size links.now (result_err result) distances.new }
     ensures stands { is_ok result ≡ true → stands_surveyed size links.now distances.new ≡ true }
 {
-    let joined = JoinedTiles::drawn(size, links)?;
+    let joined = Drawing { size, links }.floor()?;
     if distances.len() < size as usize * size as usize {
         return Err(Refusal::ShortList);
     }

@@ -5,25 +5,15 @@ ghost use Rattle.floor.specs.Walks.{Walk};
 ghost use Rattle.drawn_floor.specs.Searches.{Passes};
 
 use crate::joined_tiles::JoinedTiles;
-use crate::links::pair_at;
-use crate::search::FAR;
+use crate::links::Pairs;
 use floor::Tile;
 
 impl JoinedTiles {
     // Whether some tile has no walk to tile 0.
     pub(crate) fn is_split(&self) -> bool
-        requires { 0 < self.now.size }
         ensures { Decides result ((t : ℕ) × (t < self.now.size) × ((k : ℕ) → Walk (Passes self.now.tiles None) t 0 k → ⊥)) }
     {
-        let mut space = [FAR; 255];
-        let row = &mut space[0..usize::from(self.size)];
-        self.search(0, None, row);
-        for steps in row.iter() {
-            if *steps == FAR {
-                return true;
-            }
-        }
-        false
+        self.search(0, None)[..usize::from(self.size)].contains(&None)
     }
 
     // Whether a walk leads from one tile of a pair to the other without going from one to the other at once. If so, the
@@ -34,19 +24,16 @@ impl JoinedTiles {
         ensures { Decides result ((k : ℕ) × Walk (Passes self.now.tiles (Some pair)) pair.0 pair.1 k) }
     {
         let (a, b) = pair;
-        let mut space = [FAR; 255];
-        let row = &mut space[0..usize::from(self.size)];
-        self.search(b, Some(pair), row);
-        row[usize::from(a)] != FAR
+        self.search(b, Some(pair))[usize::from(a)].is_some()
     }
 
-    // Whether some pair of the links is in no ring.
-    pub(crate) fn has_neck(&self, links: &[u8]) -> bool
-        requires { names_stranger self.now.size (pairs_of links.now) ≡ false }
-        ensures { Decides result ((i : ℕ) × (i < length (pairs_of links.now)) × (((k : ℕ) × Walk (Passes self.now.tiles (Some (slice_index_or (pairs_of links.now) i (0, 0)))) (get_or (pairs_of links.now) i (0, 0)).0 (get_or (pairs_of links.now) i (0, 0)).1 k) → ⊥)) }
+    // Whether some pair is in no ring.
+    pub(crate) fn has_neck(&self, pairs: Pairs) -> bool
+        requires { names_stranger self.now.size (pairs_of pairs.links.now) ≡ false }
+        ensures { Decides result ((i : ℕ) × (i < length (pairs_of pairs.entry.links.now)) × (((k : ℕ) × Walk (Passes self.now.tiles (Some (slice_index_or (pairs_of pairs.entry.links.now) i (0, 0)))) (get_or (pairs_of pairs.entry.links.now) i (0, 0)).0 (get_or (pairs_of pairs.entry.links.now) i (0, 0)).1 k) → ⊥)) }
     {
-        for k in 0..links.len() / 2 {
-            if !self.is_in_ring(pair_at(links, k)) {
+        for pair in pairs {
+            if !self.is_in_ring(pair) {
                 return true;
             }
         }

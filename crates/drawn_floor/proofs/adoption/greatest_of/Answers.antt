@@ -1,16 +1,10 @@
-use Rattle.std.proofs.Common.{arith}
-use Rattle.std.proofs.lemmas.List.{at_drop_more, at_drop_all}
-use Rattle.base.specs.Lists.{greatest}
+use Rattle.std.proofs.Common.{◌∙◌}
+use Rattle.std.proofs.lemmas.Iterator.{YieldsList-from_slice}
+use Rattle.std.proofs.lemmas.Iterator.Consumers.{YieldsList-from_copied, max_from_yields_List}
+use Rattle.drawn_floor.proofs.Adopting.{greatest_found}
 use Rattle.drawn_floor.proofs.adoption.greatest_of.Goals as goal
-use Rattle.drawn_floor.proofs.adoption.greatest_of.Goals.{then-number-most, else-number-most}
-
-pub loop-number-preserved : goal.loop-number-preserved
-loop-number-preserved c =
-    let here = at_drop_more greatest c.args.numbers.now c.loop-number.number-index 0 c.loop-number-test.true in
-    elim c.if-number-most.branch [
-      | then-number-most w ↦ omega (arith, w.most-is, w.if-number-most.true, here)
-      | else-number-most w ↦ omega (arith, w.most-is, w.if-number-most.false, here)
-    ]
 
 pub returns : goal.returns
-returns c = omega (arith, at_drop_all greatest c.args.numbers.now c.loop-number.number-index c.loop-number-test.false)
+returns c =
+    let numbers = c.args.numbers.now in
+    c.unwrap_or.ensures ∙ greatest_found numbers c.max.result (max_from_yields_List _ c.max.result c.max.ensures.ran (YieldsList-from_copied (YieldsList-from_slice numbers cc)))

@@ -1,7 +1,8 @@
 use Rattle.std.proofs.Common.{◌≡◌, ◌+◌, ◌*◌, ◌≤◌, length, get_or, None, sym, refl, subst, inl, inr, arith, rules}
 use Rattle.std.proofs.lemmas.Bool.{cases_lt, false≢true}
 use Rattle.std.proofs.lemmas.Bool.Decides.{not_from_Decides}
-use Rattle.drawn_floor.specs.Searches.{Passes, Found}
+use Rattle.floor.specs.Walks.{Shortest}
+use Rattle.drawn_floor.specs.Searches.{Passes}
 use Rattle.drawn_floor.proofs.Measuring.{row_end, row_part}
 use Rattle.drawn_floor.proofs.joined_tiles.JoinedTiles.agrees.Goals as goal
 
@@ -22,7 +23,7 @@ returns-then-not-row_agrees c =
     let Goes = Passes c.args.self.now.tiles None in (
       λ e. absurd (false≢true e),
       λ all. absurd (not_from_Decides c.row_agrees.result c.row_agrees.ensures c.if-not-row_agrees.true
-          (λ t l. subst (λ d. Found Goes n t goal d) (sym (row_part n goal t numbers l)) (all goal t c.loop-goal-test.true l))),
+          (λ t l. subst (λ d. Shortest Goes t goal d) (sym (row_part n goal t numbers l)) (all goal t c.loop-goal-test.true l))),
     )
 
 pub loop-goal-preserved : goal.loop-goal-preserved
@@ -35,7 +36,7 @@ loop-goal-preserved c =
       | inl less ↦ c.loop-goal.invariant g t less b
       | inr more ↦
           let is : g ≡ goal = omega arith in
-          subst (λ z. Found Goes n t z (get_or numbers (z * n + t) 0)) (sym is) (subst (λ d. Found Goes n t goal d) (row_part n goal t numbers b) (c.row_agrees.ensures.0 c.if-not-row_agrees.false t b))
+          subst (λ z. Shortest Goes t z (get_or numbers (z * n + t) 0)) (sym is) (subst (λ d. Shortest Goes t goal d) (row_part n goal t numbers b) (c.row_agrees.ensures.0 c.if-not-row_agrees.false t b))
     ]
 
 pub returns : goal.returns

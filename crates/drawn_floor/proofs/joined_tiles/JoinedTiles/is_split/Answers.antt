@@ -1,16 +1,13 @@
-use Rattle.std.proofs.Common.{◌≡◌, ◌<◌, length, refl, arith, rules}
-use Rattle.std.proofs.lemmas.Bool.{false≢true}
-use Rattle.drawn_floor.proofs.Finding.{found_none, found_walk}
+use Rattle.std.proofs.Common.{◌≤◌, get_or, length, None, refl, arith, rules}
+use Rattle.std.proofs.lemmas.Bool.Decides.{Decides-like, Decides-at}
+use Rattle.drawn_floor.proofs.Finding.{found_none, none_found, missing_decides}
 use Rattle.drawn_floor.proofs.joined_tiles.JoinedTiles.is_split.Goals as goal
-
-pub returns-then-steps : goal.returns-then-steps
-returns-then-steps c =
-    let long : length c.search.new.row ≡ c.args.self.now.size = search rules in
-    let t = c.loop-steps.steps-index in
-    let l : t < c.args.self.now.size = omega arith in
-    (λ _. (t, l, found_none (c.search.ensures t l) c.if-steps.true (omega arith)), λ _. refl)
 
 pub returns : goal.returns
 returns c =
-    let long : length c.search.new.row ≡ c.args.self.now.size = search rules in
-    (λ e. absurd (false≢true e), λ cut. let w = found_walk (c.search.ensures cut.0 cut.1) (c.loop-steps.invariant cut.0 (omega (arith, cut.1))) in absurd (cut.2 w.0 w.1))
+    let steps = c.search.result in
+    let room : c.from.result ≤ length steps = search rules in
+    Decides-at c.contains.result _ c.contains.ensures.value (Decides-like _
+    (λ h. (h.0, omega (arith, c.from.ensures, h.1), found_none (get_or steps h.0 None) (c.search.ensures h.0) h.2))
+    (λ h. (h.0, omega (arith, c.from.ensures, h.1), none_found (get_or steps h.0 None) (c.search.ensures h.0) h.2))
+    (missing_decides _ refl (λ d. refl) c.from.result steps room))

@@ -1,17 +1,18 @@
-use Rattle.std.proofs.Common.{◌≡◌, ◌+◌, ◌-◌, ◌*◌, ◌≤◌, length, get_or, None, sym, refl, ◌∙◌, subst, inl, inr, arith, rules}
+use Rattle.std.proofs.Common.{◌≡◌, ◌+◌, ◌-◌, ◌*◌, ◌≤◌, length, get_or, None, ap, refl, ◌∙◌, subst, inl, inr, arith, rules}
 use borrow.Rule.Slice.PartMut.{put_mid}
 use Rattle.std.proofs.lemmas.List.{places}
 use Rattle.std.proofs.lemmas.Slice.{drop-put_mid}
 use Rattle.std.proofs.lemmas.Bool.{cases_lt}
-use Rattle.drawn_floor.specs.Searches.{Passes, Found}
+use Rattle.floor.specs.Walks.{Shortest}
+use Rattle.drawn_floor.specs.Searches.{Passes}
 use Rattle.drawn_floor.proofs.Measuring.{row_end, row_before}
 use Rattle.drawn_floor.proofs.joined_tiles.JoinedTiles.measure.Goals as goal
 
 pub loop-goal-init : goal.loop-goal-init
-loop-goal-init c = (λ g t l k. absurd (omega arith), refl)
+loop-goal-init c = (λ g t d l k short. absurd (omega arith), refl)
 
-pub slice_bounds-search-end : goal.slice_bounds-search-end
-slice_bounds-search-end c =
+pub slice_bounds-measure_to-end : goal.slice_bounds-measure_to-end
+slice_bounds-measure_to-end c =
     let n = c.args.self.now.size in
     let fits : c.loop-goal.goal * n + n ≤ length c.loop-goal.distances = row_end n c.loop-goal.goal (length c.loop-goal.distances) c.loop-goal-test.true (omega arith) in
     search rules
@@ -23,24 +24,24 @@ loop-goal-preserved c =
     let goal = c.loop-goal.goal in
     let base = goal * n in
     let old = c.loop-goal.distances in
-    let row = c.search.new.row in
+    let row = c.measure_to.new.row in
     let new = put_mid base (base + n - base) old row in
     let fits : base + n ≤ length old = row_end n goal (length old) c.loop-goal-test.true (omega arith) in
     let long : length row ≡ n = search rules in
     let width : base + n - base ≡ n = omega arith in
     let all = row_end n goal (n * n) c.loop-goal-test.true (omega arith) in (
-      λ g t a b. elim (cases_lt g goal) [
+      λ g t d a b short. elim (cases_lt g goal) [
         | inl less ↦
             let before = row_before n goal g t less b in
             let same : get_or new (g * n + t) 0 ≡ get_or old (g * n + t) 0 = search (rules, places) in
-            subst (λ d. Found Goes n t g d) (sym same) (c.loop-goal.invariant.0 g t less b)
+            same ∙ c.loop-goal.invariant.0 g t d less b short
         | inr more ↦
             let is : g ≡ goal = omega arith in
             let same : get_or new (goal * n + t) 0 ≡ get_or row t 0 = search (rules, places) in
-            subst (λ z. Found Goes n t z (get_or new (z * n + t) 0)) (sym is) (subst (λ d. Found Goes n t goal d) (sym same) (c.search.ensures t b))
+            ap (λ z. get_or new (z * n + t) 0) is ∙ same ∙ c.measure_to.ensures t d b (subst (λ z. Shortest Goes t z d) is short)
       ],
       drop-put_mid base (base + n - base) old row (n * n) (omega arith) (omega arith) (omega arith) ∙ c.loop-goal.invariant.1,
     )
 
 pub returns : goal.returns
-returns c = record { found = λ g t a b. c.loop-goal.invariant.0 g t (omega arith) b; beyond = c.loop-goal.invariant.1 }
+returns c = record { found = λ g t d a b. c.loop-goal.invariant.0 g t d (omega arith) b; beyond = c.loop-goal.invariant.1 }

@@ -1,8 +1,10 @@
+-- The rows that the loop has passed hold the steps of shortest walks, and what lies behind the table is as it was.
 use Rattle.std.proofs.Common.{◌≡◌, ℕ, ◌+◌, ◌*◌, ◌<◌, get_or, drop, None}
-use Rattle.drawn_floor.specs.Searches.{Passes, Found}
+use Rattle.floor.specs.Walks.{Shortest}
+use Rattle.drawn_floor.specs.Searches.{Passes}
 use Rattle.drawn_floor.proofs.joined_tiles.JoinedTiles.measure.Given as goal
 
 abbrev pub invariant-loop-goal : goal.invariant-loop-goal
 invariant-loop-goal l =
-    ((g t : ℕ) → g < l.goal → t < l.self.size → Found (Passes l.self.tiles None) l.self.size t g (get_or l.distances (g * l.self.size + t) 0))
+    ((g t d : ℕ) → g < l.goal → t < l.self.size → Shortest (Passes l.self.tiles None) t g d → get_or l.distances (g * l.self.size + t) 0 ≡ d)
     × (drop (l.self.size * l.self.size) l.distances ≡ drop (l.self.size * l.self.size) l.initial.distances)

@@ -1,18 +1,18 @@
-use Rattle.std.proofs.Common.{None, refl, subst, arith, below_more}
-use Rattle.std.proofs.lemmas.Bool.{false≢true}
-use Rattle.drawn_floor.specs.Searches.{Passes, Found}
-use Rattle.drawn_floor.proofs.Finding.{found_once}
+use Rattle.std.proofs.Common.{◌≡◌, ◌≤◌, length, get_or, None, arith, rules, tests}
+use Rattle.std.proofs.lemmas.Bool.Decides.{Decides-like, Decides-at}
+use Rattle.std.proofs.lemmas.Iterator.{YieldsList-from_slice, YieldsList-from_zip}
+use Rattle.std.proofs.lemmas.Iterator.Search.{all_from_yields_List}
+use Rattle.drawn_floor.proofs.Finding.{found_some, some_found, is_steps, row_decides}
 use Rattle.drawn_floor.proofs.joined_tiles.JoinedTiles.row_agrees.Goals as goal
-
-pub returns-then-row-tile : goal.returns-then-row-tile
-returns-then-row-tile c =
-    let t = c.loop-tile.tile in
-    (λ e. absurd (false≢true e), λ filled. absurd (c.if-row-tile.true (found_once (c.search.ensures t c.loop-tile-test.true) (filled t c.loop-tile-test.true))))
-
-pub loop-tile-preserved : goal.loop-tile-preserved
-loop-tile-preserved c = below_more _ _ c.loop-tile.invariant c.if-row-tile.false
 
 pub returns : goal.returns
 returns c =
-    let n = c.args.self.now.size in
-    (λ _ t l. subst (λ d. Found (Passes c.args.self.now.tiles None) n t c.args.goal d) (c.loop-tile.invariant t (omega arith)) (c.search.ensures t l), λ _. refl)
+    let numbers = c.args.numbers.now in
+    let steps = c.search-steps.result in
+    let long : length steps ≡ 256 = search rules in
+    let room : length numbers ≤ length steps = omega (arith, c.requires.long, c.args.self.now.fits) in
+    let all = all_from_yields_List is_steps c.all.new.self _ _ c.all.ensures.ran (YieldsList-from_zip (YieldsList-from_slice numbers cc) (YieldsList-from_slice steps cc)) (λ x b q k. search (rules, tests)) in
+    Decides-at c.all.result _ all (Decides-like _
+    (λ h. λ t l. some_found (get_or steps t None) (c.search-steps.ensures t) (h t (omega (arith, l, c.requires.long))))
+    (λ h. λ t l. found_some (get_or steps t None) (c.search-steps.ensures t) (h t (omega (arith, l, c.requires.long))))
+    (row_decides numbers steps room))

@@ -1,12 +1,12 @@
--- The search has gone on from the first `at` of the tiles that it met.
-use Rattle.std.proofs.Common.{◌-◌}
+-- The search has come as far as its layer.
+use Rattle.std.proofs.Common.{◌+◌, length}
 use Rattle.drawn_floor.specs.Searches.{Passes}
-use Rattle.drawn_floor.specs.Underway.{Underway}
+use Rattle.drawn_floor.specs.Spreading.{Layered, unmet}
 use Rattle.drawn_floor.proofs.joined_tiles.JoinedTiles.search.Given as goal
 
-abbrev pub invariant-loop-at : goal.invariant-loop-at
-invariant-loop-at l = Underway (Passes l.self.tiles l.cut) l.self.size l.goal l.row l.queue.tiles l.at l.queue.count
+abbrev pub invariant-loop-cut : goal.invariant-loop-cut
+invariant-loop-cut l = Layered (Passes l.self.tiles l.cut) l.goal l.search
 
--- each tile is met once, and there are at most 255
-abbrev pub decreases-loop-at : goal.decreases-loop-at
-decreases-loop-at l = 255 - l.at
+-- Each tile of a layer was met, and leaves the layer.
+abbrev pub decreases-loop-cut : goal.decreases-loop-cut
+decreases-loop-cut l = unmet l.search.steps + length l.search.layer.items

@@ -1,0 +1,15 @@
+use Rattle.std.proofs.Common.{◌≡◌, true, false, ltb, length, subst, arith, MatchOption}
+use Rattle.std.proofs.lemmas.Grind.{common_steps}
+use Rattle.base.specs.Lists.{below, some_is}
+use Rattle.floor.specs.Links.{pairs_of}
+use Rattle.drawn_floor.proofs.Marking.{marked_linked}
+use Rattle.drawn_floor.proofs.drawing.Drawing.joined_tiles.Goals as goal
+
+pub returns-clause-answer : goal.returns-clause-answer
+returns-clause-answer c =
+    let n = c.args.self.now.size in
+    let links = c.args.self.now.links.now in
+    let ps = pairs_of links in
+    let told = rw (c.in_ok-marks.ensures.ok_part, c.pairs.ensures) at c.of.ensures in
+    let crowded = subst (λ joined_to. MatchOption c.marked.result (some_is (λ t. ltb 6 (length (joined_to t))) (below n) ≡ true) (λ _. some_is (λ t. ltb 6 (length (joined_to t))) (below n) ≡ false)) (marked_linked n ps c.in_ok-marks.marks.marks told.1) c.marked.ensures.crowded in
+    grind (arith, common_steps)
