@@ -1,6 +1,7 @@
 -- What a search finds, said of the links that the table was made of.
 use Rattle.std.proofs.Common.{◌≡◌, ℕ, ◌<◌, ◌≤◌, Bool, true, false, not, ◌&&◌, zero, suc, eqb, List, [], ◌∷◌, length, get_or, take, Some, None, Decides, Option, sym, refl, ap, ◌∙◌, subst, inl, inr, arith}
-use Rattle.std.specs.List.{slice_get, list_all, list_any, zip}
+use Rattle.std.specs.Bool.{MatchBool}
+use Rattle.std.specs.List.{slice_get, list_all, list_any, zip, AllWithin, HoldsAt}
 use Rattle.std.proofs.lemmas.List.{get_or_default, get_or-take, length-take-le}
 use Rattle.std.proofs.lemmas.Option.{slice_get-get_or, slice_get_past}
 use Rattle.std.proofs.lemmas.Bool.{false≢true, and_parts, and_from, cases_lt, eqb-true, eq-eqb, both_ways, not-true, not_from_false}
@@ -86,6 +87,13 @@ in_nth xs k y e = elim (cases_lt k (length xs)) [
 abbrev pub NeckFound : Bool → List (List (Option ℕ)) → List (ℕ × ℕ) → Type 0
 NeckFound r tiles ps = Decides r ((i : ℕ) × (i < length ps) × (((k : ℕ) × Walk (Passes tiles (Some (get_or ps i (0, 0)))) (get_or ps i (0, 0)).0 (get_or ps i (0, 0)).1 k) → ⊥))
 
+-- the answer of a test of all pairs
+pub neck_decides : (r : Bool) (tiles : List (List (Option ℕ))) (ps : List (ℕ × ℕ)) →
+    let Round : ℕ × ℕ → Type 0 = λ p. (k : ℕ) × Walk (Passes tiles (Some p)) p.0 p.1 k in
+    MatchBool r ((i : ℕ) × (i < length ps) × HoldsAt (λ p. Round p → ⊥) ps i) (AllWithin Round ps 0 (length ps)) → NeckFound r tiles ps
+neck_decides true tiles ps some = (λ e. (some.0, some.1, some.2 (0, 0)), λ h. refl)
+neck_decides false tiles ps all = (λ e. absurd (false≢true e), λ h. absurd (h.2 (all h.0 (0, 0) (omega arith) h.1)))
+
 -- a table of n tiles that holds for each tile those that the pairs join to it, at most six
 module _ (n : ℕ) (ps : List (ℕ × ℕ)) (tiles : List (List (Option ℕ))) (known : names_stranger n ps ≡ false) (tabled : Tabled n (linked_to n ps) tiles) where
   linked_listed : (a b : ℕ) → linked ps a b ≡ true → Listed tiles b a
@@ -166,9 +174,6 @@ both {b = b} {c = c} e f = ap (λ x. (x, c)) e ∙ ap (λ y. (b, y)) f
 module _ (n m : ℕ) (links : List ℕ) (tiles : List (List (Option ℕ))) (none : None ≡ first_refusal (link_tests n links)) (made : (m ≡ n) × Tabled n (linked_to n (pairs_of links)) tiles) where
   pub split_made : (r : Bool) → Decides r ((t : ℕ) × (t < m) × ((k : ℕ) → Walk (Passes tiles None) t 0 k → ⊥)) → r ≡ is_split n (pairs_of links)
   split_made r found = split_found n links tiles (links_pass n links (sym none)) made.1 r (subst (λ l. Decides r ((t : ℕ) × (t < l) × ((k : ℕ) → Walk (Passes tiles None) t 0 k → ⊥))) made.0 found)
-
-  pub known_made : names_stranger m (pairs_of links) ≡ false
-  known_made = subst (λ l. names_stranger l (pairs_of links) ≡ false) (sym made.0) (links_pass n links (sym none)).known
 
   pub walk_answer : {split neck : Bool} → split ≡ is_split n (pairs_of links) → neck ≡ has_neck n (pairs_of links) → first_refusal ((split, Split) ∷ (neck, Neck) ∷ []) ≡ drawing_refusal n links
   walk_answer {split} {neck} s k =

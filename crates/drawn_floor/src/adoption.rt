@@ -17,8 +17,7 @@ static RING_PULLS: [Pull; 9] = [0, 1, 1, 1, 0, 1, 1, 1, 0];
 impl JoinedTiles {
     // Whether the numbers are the steps of shortest walks to this goal.
     fn row_agrees(&self, goal: Tile, numbers: &[Pull]) -> bool
-        requires goal { goal < self.now.size }
-        requires long { length numbers.now ≡ self.now.size }
+        requires { length numbers.now ≡ self.now.size }
         ensures { Decides result ((t : ℕ) → t < self.now.size → Shortest (Passes self.now.tiles None) t goal (slice_index numbers.now t)) }
     {
         let steps = self.search(goal, None);

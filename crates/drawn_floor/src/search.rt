@@ -25,7 +25,6 @@ struct Search {
 impl JoinedTiles {
     // For each tile the steps of a shortest walk to `goal` that does not use the pair `cut`; none where there is no walk.
     pub(crate) fn search(&self, goal: Tile, cut: Option<(Tile, Tile)>) -> Steps
-        requires { goal < self.now.size }
         ensures { Filled (Passes self.now.tiles cut) goal result }
     {
         let mut search = Search::begun(goal);

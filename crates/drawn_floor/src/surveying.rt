@@ -13,8 +13,7 @@ use floor::{Pull, Tile};
 impl JoinedTiles {
     // Writes for each tile that has a walk to the goal the steps of a shortest one.
     fn measure_to(&self, goal: Tile, row: &mut [Pull])
-        requires goal { goal < self.now.size }
-        requires long { length row.old ≡ self.now.size }
+        requires { length row.old ≡ self.now.size }
         ensures { (t d : ℕ) → t < self.now.size → Shortest (Passes self.now.tiles None) t goal d → slice_index row.new t ≡ d }
     {
         let found = self.search(goal, None);

@@ -19,8 +19,6 @@ impl JoinedTiles {
     // Whether a walk leads from one tile of a pair to the other without going from one to the other at once. If so, the
     // pair is in a ring.
     fn is_in_ring(&self, pair: (Tile, Tile)) -> bool
-        requires first { pair.0 < self.now.size }
-        requires second { pair.1 < self.now.size }
         ensures { Decides result ((k : ℕ) × Walk (Passes self.now.tiles (Some pair)) pair.0 pair.1 k) }
     {
         let (a, b) = pair;
@@ -28,15 +26,9 @@ impl JoinedTiles {
     }
 
     // Whether some pair is in no ring.
-    pub(crate) fn has_neck(&self, pairs: Pairs) -> bool
-        requires { names_stranger self.now.size (pairs_of pairs.links.now) ≡ false }
+    pub(crate) fn has_neck(&self, mut pairs: Pairs) -> bool
         ensures { Decides result ((i : ℕ) × (i < length (pairs_of pairs.entry.links.now)) × (((k : ℕ) × Walk (Passes self.now.tiles (Some (slice_index_or (pairs_of pairs.entry.links.now) i (0, 0)))) (get_or (pairs_of pairs.entry.links.now) i (0, 0)).0 (get_or (pairs_of pairs.entry.links.now) i (0, 0)).1 k) → ⊥)) }
     {
-        for pair in pairs {
-            if !self.is_in_ring(pair) {
-                return true;
-            }
-        }
-        false
+        pairs.any(|pair| !self.is_in_ring(pair))
     }
 }

@@ -1,12 +1,12 @@
-use Rattle.std.proofs.Common.{◌≡◌, Some, false, [], ◌∷◌, sym, refl, ap, ◌∙◌, subst}
+use Rattle.std.proofs.Common.{Some, [], ◌∷◌, sym, refl, ap, ◌∙◌}
 use Rattle.std.proofs.lemmas.Result.{err_from_is_err_and}
 use Rattle.std.specs.Result.{result_err}
 use Rattle.base.proofs.Testing.{refused_on}
 use Rattle.base.specs.Refusals.{first_refusal}
 use Rattle.base.specs.declared.refusal.Refusal.TheVariants.{Split, Neck}
 use Rattle.floor.specs.Links.{pairs_of}
-use Rattle.floor.specs.Survey.{names_stranger, has_neck, link_tests, walk_tests}
-use Rattle.drawn_floor.proofs.Finding.{split_made, known_made, necked, walk_answer, made_answer}
+use Rattle.floor.specs.Survey.{has_neck, link_tests, walk_tests}
+use Rattle.drawn_floor.proofs.Finding.{split_made, necked, walk_answer, made_answer}
 use Rattle.drawn_floor.proofs.drawing.Drawing.floor.Goals as goal
 
 pub returns-in_err-joined-clause-answer : goal.returns-in_err-joined-clause-answer
@@ -27,12 +27,6 @@ returns-then-is_split c =
       answer = sym (ap (λ b. first_refusal ((b, Split) ∷ (has_neck n (pairs_of links), Neck) ∷ [])) c.if-is_split.true) ∙ walk_answer n joined.size links joined.tiles told.answer told.made split refl;
       made = tt;
     }
-
-pub has_neck-requires : goal.has_neck-requires
-has_neck-requires c =
-    let joined = c.in_ok-joined.joined in
-    let told = c.in_ok-joined.ensures in
-    subst (λ ps. names_stranger joined.size ps ≡ false) (sym c.pairs.ensures) (known_made c.args.self.now.size joined.size c.args.self.now.links.now joined.tiles told.answer told.made)
 
 pub returns-then-has_neck : goal.returns-then-has_neck
 returns-then-has_neck c =
