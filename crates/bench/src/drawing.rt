@@ -1,4 +1,5 @@
-ghost use Rattle.std.specs.Prelude.{◌≡◌, ◌+◌, ◌%◌, ◌<◌};
+ghost use Rattle.std.specs.Prelude.{◌≡◌, ◌+◌, ◌%◌, ◌<◌, IfOk};
+ghost use Rattle.std.specs.Vec.{vec_len};
 
 use floor::Tile;
 use std::alloc::{AllocError, Global};
@@ -24,6 +25,12 @@ fn three_pairs(tile: Tile) -> [Tile; 6]
 }
 
 // Six joined tiles for each tile, and each pair named once: a drawing can have no more.
-pub(crate) fn largest_links(heap: Global) -> Result<Vec<u8>, AllocError> {
-    (0..TILES).flat_map(three_pairs).collect(heap)
+pub(crate) fn largest_links(heap: Global) -> Result<Vec<u8>, AllocError>
+    ensures { IfOk result (λ links. vec_len links ≡ 1530) }
+{
+    let mut links = Vec::new(heap);
+    for tile in 0..TILES {
+        links.extend_from_slice(&three_pairs(tile))?;
+    }
+    Ok(links)
 }

@@ -22,8 +22,6 @@ pub trait Floor {
 
     ghost farthest: { Self → ℕ };
 
-    ghost laws: { (f : Self) → Laws (floor_model (tiles f) (joins f) (pulls f) (farthest f)) };
-
     // How many tiles the floor has.
     fn size(&self) -> Tile
         ensures { result ≡ tiles self.now };
@@ -39,4 +37,6 @@ pub trait Floor {
     // The pull of `tile` towards `goal`; none where one of them is no tile of the floor.
     fn pull(&self, tile: Tile, goal: Tile) -> Option<Pull>
         ensures { result ≡ pull_between (floor_model (tiles self.now) (joins self.now) (pulls self.now) (farthest self.now)) tile goal };
+
+    ghost laws: { (f : Self) → Laws (floor_model (tiles f) (joins f) (pulls f) (farthest f)) };
 }
