@@ -8,8 +8,6 @@ use crate::drawn::DrawnFloor;
 use floor::{Floor, Pull, Tile};
 
 impl<'a> Floor for DrawnFloor<'a> {
-    ghost laws = { λ f. standing_laws f.joined.size f.links.now f.pulls.now f.stands };
-
     ghost tiles = { λ f. f.joined.size };
 
     ghost joins = { λ f. linked (pairs_of f.links.now) };
@@ -17,6 +15,8 @@ impl<'a> Floor for DrawnFloor<'a> {
     ghost pulls = { λ f. distance (linked (pairs_of f.links.now)) f.joined.size };
 
     ghost farthest = { λ f. greatest (distances f.joined.size f.links.now) };
+
+    ghost laws = { λ f. standing_laws f.joined.size f.links.now f.pulls.now f.stands };
 
     fn size(&self) -> Tile {
         self.joined.size

@@ -9,8 +9,6 @@ use base::Refusal;
 use floor::{Floor, Pull, Tile};
 
 impl Floor for OpenFloor {
-    ghost laws = { λ f. open_laws f.width f.height f.wide f.high f.small };
-
     ghost tiles = { λ f. f.width * f.height };
 
     ghost joins = { λ f. beside f.width f.height };
@@ -18,6 +16,8 @@ impl Floor for OpenFloor {
     ghost pulls = { λ f. steps f.width };
 
     ghost farthest = { λ f. corners f.width f.height };
+
+    ghost laws = { λ f. open_laws f.width f.height f.wide f.high f.small };
 
     fn size(&self) -> Tile {
         self.width * self.height
