@@ -20,7 +20,7 @@ fn lay(links: &[u8], distances: &mut [Pull]) -> io::Result<()> {
 
 // A floor to adopt on has to be made each time; a ring costs little. Where the adoption is refused, the reach is that of
 // the ring, 1.
-fn adopted<'a>(links: &'a [u8], numbers: &'a [Pull]) -> Pull {
+fn adopted(links: &[u8], numbers: &[Pull]) -> Pull {
     let mut floor = DrawnFloor::ring();
     floor.adopt(TILES, links, numbers);
     floor.reach()

@@ -67,7 +67,7 @@ fn is_kite(floor: &DrawnFloor) -> Result<(), Fail> {
 }
 
 // Adopts the kite, and keeps it when it is handed links that name a fourth of three tiles.
-fn becomes_kite<'a>(links: &'a [u8], pulls: &'a [Pull]) -> Result<(), Fail> {
+fn becomes_kite(links: &[u8], pulls: &[Pull]) -> Result<(), Fail> {
     let mut floor = DrawnFloor::ring();
     check(floor.adopt(4, links, pulls))?;
     is_kite(&floor)?;
@@ -75,8 +75,8 @@ fn becomes_kite<'a>(links: &'a [u8], pulls: &'a [Pull]) -> Result<(), Fail> {
     is_kite(&floor)
 }
 
-fn stays_ring<'a>(size: Tile, links: &'a [u8], pulls: &'a [Pull]) -> Result<(), Fail> {
-    let mut floor: DrawnFloor<'a> = DrawnFloor::ring();
+fn stays_ring(size: Tile, links: &[u8], pulls: &[Pull]) -> Result<(), Fail> {
+    let mut floor = DrawnFloor::ring();
     is_ring_of_three(&floor)?;
     check(!floor.adopt(size, links, pulls))?;
     is_ring_of_three(&floor)
@@ -115,7 +115,7 @@ fn not_adopted() -> Result<(), Fail> {
 }
 
 // In a ring of 255 the way is the shorter of the two around it: from 10 to 200 it has 255 - 190 steps.
-fn becomes_longest_ring<'a>(links: &'a [u8], pulls: &'a [Pull]) -> Result<(), Fail> {
+fn becomes_longest_ring(links: &[u8], pulls: &[Pull]) -> Result<(), Fail> {
     let mut floor = DrawnFloor::ring();
     check(floor.adopt(255, links, pulls))?;
     check_eq(floor.size(), 255)?;
