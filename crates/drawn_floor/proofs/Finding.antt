@@ -1,6 +1,6 @@
 -- What a search finds, said of the links that the table was made of.
-use Rattle.std.proofs.Common.{◌≡◌, ℕ, ◌<◌, ◌≤◌, Bool, true, false, not, ◌&&◌, zero, suc, eqb, List, [], ◌∷◌, length, get_or, take, Some, None, Decides, Option, sym, refl, ap, ◌∙◌, subst, inl, inr, arith}
-use Rattle.std.specs.List.{slice_get, list_all, list_any, zip}
+use Rattle.std.proofs.Common.{◌≡◌, ℕ, ◌<◌, ◌≤◌, Bool, true, false, not, ◌&&◌, zero, suc, eqb, List, [], ◌∷◌, length, get_or, take, Some, None, Decides, MatchBool, Option, sym, refl, ap, ◌∙◌, subst, inl, inr, arith}
+use Rattle.std.specs.List.{slice_get, list_all, list_any, zip, HoldsAt, AllWithin}
 use Rattle.std.proofs.lemmas.List.{get_or_default, get_or-take, length-take-le}
 use Rattle.std.proofs.lemmas.Option.{slice_get-get_or, slice_get_past}
 use Rattle.std.proofs.lemmas.Bool.{false≢true, and_parts, and_from, cases_lt, eqb-true, eq-eqb, both_ways, not-true, not_from_false}
@@ -85,6 +85,13 @@ in_nth xs k y e = elim (cases_lt k (length xs)) [
 -- r says whether some pair has no walk round it
 abbrev pub NeckFound : Bool → List (List (Option ℕ)) → List (ℕ × ℕ) → Type 0
 NeckFound r tiles ps = Decides r ((i : ℕ) × (i < length ps) × (((k : ℕ) × Walk (Passes tiles (Some (get_or ps i (0, 0)))) (get_or ps i (0, 0)).0 (get_or ps i (0, 0)).1 k) → ⊥))
+
+-- some pair has no walk round it, or each has one
+pub neck_cases : (r : Bool) (tiles : List (List (Option ℕ))) (ps : List (ℕ × ℕ))
+    → MatchBool r ((i : ℕ) × (i < length ps) × HoldsAt (λ p. ((k : ℕ) × Walk (Passes tiles (Some p)) p.0 p.1 k) → ⊥) ps i) (AllWithin (λ p. (k : ℕ) × Walk (Passes tiles (Some p)) p.0 p.1 k) ps 0 (length ps))
+    → NeckFound r tiles ps
+neck_cases true tiles ps some = (λ e. (some.0, some.1, some.2 (0, 0)), λ h. refl)
+neck_cases false tiles ps none = (λ e. absurd (false≢true e), λ h. absurd (h.2 (none h.0 (0, 0) (omega arith) h.1)))
 
 -- a table of n tiles that holds for each tile those that the pairs join to it, at most six
 module _ (n : ℕ) (ps : List (ℕ × ℕ)) (tiles : List (List (Option ℕ))) (known : names_stranger n ps ≡ false) (tabled : Tabled n (linked_to n ps) tiles) where

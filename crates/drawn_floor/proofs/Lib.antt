@@ -6,4 +6,3 @@ mod Pairs
 mod Rows
 mod Spreading
 mod Tabling
-mod Turns

@@ -28,15 +28,10 @@ impl JoinedTiles {
     }
 
     // Whether some pair is in no ring.
-    pub(crate) fn has_neck(&self, pairs: Pairs) -> bool
+    pub(crate) fn has_neck(&self, mut pairs: Pairs) -> bool
         requires { names_stranger self.now.size (pairs_of pairs.links.now) ≡ false }
         ensures { Decides result ((i : ℕ) × (i < length (pairs_of pairs.entry.links.now)) × (((k : ℕ) × Walk (Passes self.now.tiles (Some (slice_index_or (pairs_of pairs.entry.links.now) i (0, 0)))) (get_or (pairs_of pairs.entry.links.now) i (0, 0)).0 (get_or (pairs_of pairs.entry.links.now) i (0, 0)).1 k) → ⊥)) }
     {
-        for pair in pairs {
-            if !self.is_in_ring(pair) {
-                return true;
-            }
-        }
-        false
+        pairs.any(|pair| !self.is_in_ring(pair))
     }
 }
