@@ -3,10 +3,10 @@ use Rattle.std.proofs.Common.{◌≡◌, ℕ, zero, suc, ◌+◌, ◌<◌, true,
 use Rattle.std.specs.List.{flat_map}
 use Rattle.std.specs.Option.{option_to_list}
 use Rattle.std.proofs.lemmas.Bool.{cases_lt, both_ways}
-use Rattle.std.proofs.lemmas.List.{length-append, length_push, get_or_default}
+use Rattle.std.proofs.lemmas.List.{length_push, get_or_default}
 use Rattle.base.proofs.Testing.{some_not_none}
 use Rattle.drawn_floor.specs.Searches.{left_out, Passes}
-use Rattle.drawn_floor.specs.Spreading.{Meets, HasRoom}
+use Rattle.drawn_floor.specs.Spreading.{Meets}
 use Rattle.drawn_floor.specs.declared.search.Search.{Search}
 use Rattle.drawn_floor.proofs.Spreading.{meets_then, meets_as, meets_none}
 
@@ -78,7 +78,3 @@ module _ (tiles : List (List (Option ℕ))) (cut : Option (ℕ × ℕ)) (t : ℕ
   -- a tile that is not left out is met
   pub not_left_out_met : (v : ℕ) → left_out cut t v ≡ false → (s after : Search) → Meets (λ u. u ≡ v) s after → Meets (λ u. NotLeftOut u v) s after
   not_left_out_met v is s after = meets_as s after (λ u e. (e, is)) (λ u h. h.0)
-
--- a search that had room for all that it can meet has room for the rest
-pub room_left : {Next : ℕ → Type 0} (s t : Search) → HasRoom s → Meets Next s t → HasRoom t
-room_left s t room m = omega (arith, room, m.1.2.count, ap length m.1.1, length-append s.layer.items m.1.0)

@@ -4,14 +4,8 @@ use Rattle.std.proofs.lemmas.Iterator.{YieldsList-from_slice}
 use Rattle.std.proofs.lemmas.Iterator.Adapters.{YieldsList-from_once, YieldsList-from_flatten}
 use Rattle.std.proofs.lemmas.Iterator.Consumers.{YieldsList-from_copied, YieldsList-turn, YieldsList-end}
 use Rattle.drawn_floor.specs.Spreading.{Meets}
-use Rattle.drawn_floor.proofs.Rows.{BehindFirst, NotLeftOut, tiles_in, behind_first, behind_turn, row_passed, not_left_out_met, left_out_over, room_left}
+use Rattle.drawn_floor.proofs.Rows.{BehindFirst, NotLeftOut, tiles_in, behind_turn, row_passed, not_left_out_met, left_out_over}
 use Rattle.drawn_floor.proofs.search.Search.meet_joined.Goals as goal
-
-pub loop-next-init : goal.loop-next-init
-loop-next-init c = behind_first (NotLeftOut c.args.joined.now.tiles c.args.cut c.args.tile) (tiles_in (get_or c.args.joined.now.tiles c.args.tile [])) c.args.self.now
-
-pub meet-requires : goal.meet-requires
-meet-requires c = room_left c.args.self.now c.loop-next.self c.requires c.loop-next.invariant
 
 pub loop-next-preserved-then-not-is_left_out : goal.loop-next-preserved-then-not-is_left_out
 loop-next-preserved-then-not-is_left_out c =
