@@ -11,18 +11,15 @@ use base::Refusal;
 use floor::{Pull, Tile};
 
 impl JoinedTiles {
-    // Writes for each tile that has a walk to the goal the steps of a shortest one.
+    // Writes for each tile the steps of a shortest walk to the goal; 0 where there is no walk, as in no drawing that is a
+    // floor.
     fn measure_to(&self, goal: Tile, row: &mut [Pull])
         requires goal { goal < self.now.size }
         requires long { length row.old ≡ self.now.size }
         ensures { (t d : ℕ) → t < self.now.size → Shortest (Passes self.now.tiles None) t goal d → slice_index row.new t ≡ d }
     {
-        let found = self.search(goal, None);
-        for (tile, place) in row.iter_mut().enumerate() {
-            if let Some(steps) = found[tile] {
-                *place = steps;
-            }
-        }
+        let found = self.search(goal, None).map(|steps| steps.unwrap_or(0));
+        row.copy_from_slice(&found[..row.len()]);
     }
 
     // Writes to place g * n + t, for each of the n tiles t and g, the steps of a shortest walk from t to g, if there is one.
