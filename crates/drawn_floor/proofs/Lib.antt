@@ -1,4 +1,5 @@
 mod Adopting
+mod Chunking
 mod Finding
 mod Marking
 mod Measuring

@@ -1,5 +1,5 @@
 -- A table of distances, row after row, and what a survey that writes it answers.
-use Rattle.std.proofs.Common.{◌≡◌, ℕ, ◌+◌, ◌-◌, ◌*◌, ◌/◌, ◌%◌, ◌<◌, ◌≤◌, Bool, ltb, List, [], ◌∷◌, ◌++◌, length, get_or, take, drop, Some, None, Option, sym, ap, ◌∙◌, subst, add-mul, arith}
+use Rattle.std.proofs.Common.{◌≡◌, ℕ, ◌+◌, ◌*◌, ◌/◌, ◌%◌, ◌<◌, ◌≤◌, Bool, ltb, List, [], ◌∷◌, ◌++◌, length, get_or, take, drop, Some, None, Option, sym, ap, ◌∙◌, subst, add-mul, arith}
 use Rattle.std.proofs.lemmas.Nat.{mul-le, mod_below, div_below, div-add-mod'}
 use Rattle.std.proofs.lemmas.List.{ext_get_or, get_or-take, get_or-drop, length-take-le, take-append-drop}
 use Rattle.std.proofs.lemmas.Bool.{lt-ltb, le-ltb}
@@ -26,8 +26,8 @@ pub row_before : (n g h t : ℕ) → h < g → t < n → h * n + t < g * n
 row_before n g h t a b = omega (arith, mul-le (h + 1) n g n (omega arith) (omega arith), add-mul h 1 n)
 
 -- a place of the row, as a part of the table
-pub row_part : (n g t : ℕ) (numbers : List ℕ) → t < n → get_or (take (g * n + n - g * n) (drop (g * n) numbers)) t 0 ≡ get_or numbers (g * n + t) 0
-row_part n g t numbers l = get_or-take (g * n + n - g * n) (drop (g * n) numbers) t 0 (omega arith) ∙ get_or-drop (g * n) numbers t 0
+pub row_part : (n g t : ℕ) (numbers : List ℕ) → t < n → get_or (take n (drop (g * n) numbers)) t 0 ≡ get_or numbers (g * n + t) 0
+row_part n g t numbers l = get_or-take n (drop (g * n) numbers) t 0 l ∙ get_or-drop (g * n) numbers t 0
 
 -- a drawing that is a floor, and the table of its joined tiles
 module _ (n : ℕ) (links : List ℕ) (tiles : List (List (Option ℕ))) (is-floor : drawing_refusal n links ≡ None) (tabled : Tabled n (linked_to n (pairs_of links)) tiles) where

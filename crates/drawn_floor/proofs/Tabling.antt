@@ -1,14 +1,15 @@
 -- A row of joined tiles, filled tile by tile, and the table of such rows.
-use Rattle.std.proofs.Common.{◌≡◌, ℕ, zero, suc, ◌+◌, ◌<◌, ◌≤◌, Bool, true, eqb, ltb, List, [], length, get_or, replicate, Some, None, Option, sym, refl, ap, ◌∙◌, inl, inr, arith}
+use Rattle.std.proofs.Common.{◌≡◌, ℕ, zero, suc, ◌+◌, ◌<◌, ◌≤◌, Bool, eqb, List, [], ◌∷◌, length, get_or, replicate, Some, None, Option, sym, refl, ap, ◌∙◌, inl, inr, arith}
 use Rattle.std.specs.Array.{IsFromFnResultFrom, IsFromFnResult}
 use Rattle.std.specs.Fn.{Called}
-use Rattle.std.specs.List.{slice_get}
-use Rattle.std.proofs.lemmas.List.{get_or-replicate, get_or_past, length_push, length-replicate}
+use Rattle.std.specs.List.{slice_get, filter, range_with_len}
+use Rattle.std.proofs.lemmas.List.{get_or-replicate, get_or_past, length-replicate}
 use Rattle.std.proofs.lemmas.Option.{slice_get_past, slice_get_within, get_or_from_slice_get}
-use Rattle.std.proofs.lemmas.Bool.{cases_eq, cases_lt, eq-eqb, lt-ltb}
+use Rattle.std.proofs.lemmas.Bool.{cases_eq, cases_lt, cases_Bool, eq-eqb, cond-true, cond-false}
 use denote.Param.Members.{Mut}
 use Rattle.base.specs.Lists.{below, those}
-use Rattle.base.proofs.Numbers.{those_more_yes, length-those_le, some_in, those_among}
+use Rattle.base.proofs.Ascending.{those_take, those_skip}
+use Rattle.base.proofs.Numbers.{some_in, those_among}
 use Rattle.base.proofs.Testing.{some_not_none}
 use Rattle.drawn_floor.specs.Tables.{at_place, Rowed, SixPlaces, Tabled}
 
@@ -35,16 +36,18 @@ rowed us row long few same = (
   ],
 )
 
-module _ (test : ℕ → Bool) where
-  pub those_none : those test (below 0) ≡ []
-  unfolding those below
-  those_none = refl
+-- a filter passes those that pass its test
+filtered : (test : ℕ → Bool) (xs : List ℕ) → filter test xs ≡ those test xs
+unfolding those
+filtered test [] = refl
+filtered test (x ∷ xs) = elim (cases_Bool (test x)) [
+  | inl passes ↦ cond-true (test x) _ _ passes ∙ ap (λ ys. x ∷ ys) (filtered test xs) ∙ sym (those_take test x xs passes)
+  | inr fails ↦ cond-false (test x) _ _ fails ∙ filtered test xs ∙ sym (those_skip test x xs fails)
+]
 
-  -- one more than m that pass
-  pub those_past : (m other n : ℕ) → test other ≡ true → length (those test (below other)) ≡ m → other < n → ltb m (length (those test (below n))) ≡ true
-  those_past m other n passes full low =
-      lt-ltb m (length (those test (below n)))
-      (omega (arith, ap length (those_more_yes test other passes), length_push (those test (below other)) other, length-those_le test (other + 1) n (omega arith)))
+pub those_filtered : (test : ℕ → Bool) (n : ℕ) → filter test (range_with_len 0 n) ≡ those test (below n)
+unfolding below
+those_filtered test n = filtered test (range_with_len 0 n)
 
 one_value : {X : Type 0} (n i : ℕ) (d : X) → get_or (replicate n d) i d ≡ d
 one_value n i d = elim (cases_lt i n) [ inl l ↦ get_or-replicate n i d d l | inr l ↦ get_or_past (replicate n d) i d (omega (arith, length-replicate n d)) ]

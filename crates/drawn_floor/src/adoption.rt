@@ -32,14 +32,9 @@ impl JoinedTiles {
         requires { self.now.size * self.now.size ≤ length numbers.now }
         ensures { Decides result ((g t : ℕ) → g < self.now.size → t < self.now.size → Shortest (Passes self.now.tiles None) t g (slice_index numbers.now (g * self.now.size + t))) }
     {
-        let width = self.size as usize;
-        for goal in 0..self.size {
-            let start = goal as usize * width;
-            if !self.row_agrees(goal, &numbers[start..start + width]) {
-                return false;
-            }
-        }
-        true
+        (0..self.size)
+            .zip(numbers.chunks_exact(self.size as usize))
+            .all(|(goal, row)| self.row_agrees(goal, row))
     }
 }
 

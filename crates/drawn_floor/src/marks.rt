@@ -63,10 +63,8 @@ impl Marks {
         ensures { MatchOption result (nat_lt 6 (length (marked_to size self.now.marks tile)) ≡ true) (λ row. (nat_lt 6 (length (marked_to size self.now.marks tile)) ≡ false) × Rowed (marked_to size self.now.marks tile) row) }
     {
         let mut joined: ArrayVec<Tile, MOST> = ArrayVec::new();
-        for other in 0..size {
-            if self.has((tile, other)) {
-                joined.try_push(other).ok()?;
-            }
+        for other in (0..size).filter(|other| self.has((tile, *other))) {
+            joined.try_push(other).ok()?;
         }
         let joined = joined.as_slice();
         Some(array::from_fn(

@@ -1,43 +1,30 @@
-use Rattle.std.proofs.Common.{◌≡◌, ◌+◌, ◌*◌, ◌≤◌, length, get_or, None, sym, refl, subst, inl, inr, arith, rules}
-use Rattle.std.proofs.lemmas.Bool.{cases_lt, false≢true}
-use Rattle.std.proofs.lemmas.Bool.Decides.{not_from_Decides}
+use Rattle.std.proofs.Common.{ℕ, ◌<◌, None, get_or, refl, rules, arith, tests}
+use Rattle.std.proofs.lemmas.Iterator.{YieldsList-from_range, YieldsList-from_zip, cases_from_all}
+use Rattle.std.proofs.lemmas.Iterator.Consumers.{YieldsList-at}
+use Rattle.std.proofs.lemmas.Iterator.Adapters.{serves_from_places}
 use Rattle.floor.specs.Walks.{Shortest}
 use Rattle.drawn_floor.specs.Searches.{Passes}
-use Rattle.drawn_floor.proofs.Measuring.{row_end, row_part}
+use Rattle.drawn_floor.proofs.Chunking.{YieldsList-from_rows, numbered_fits, rows_agree}
 use Rattle.drawn_floor.proofs.joined_tiles.JoinedTiles.agrees.Goals as goal
 
-pub loop-goal-init : goal.loop-goal-init
-loop-goal-init c = λ g t l k. absurd (omega arith)
-
-pub slice_bounds-row_agrees-end : goal.slice_bounds-row_agrees-end
-slice_bounds-row_agrees-end c =
-    let n = c.args.self.now.size in
-    let fits : c.loop-goal.goal * n + n ≤ length c.args.numbers.now = row_end n c.loop-goal.goal (length c.args.numbers.now) c.loop-goal-test.true (omega arith) in
-    search rules
-
-pub returns-then-not-row_agrees : goal.returns-then-not-row_agrees
-returns-then-not-row_agrees c =
+pub all-requires-clause-callable : goal.all-requires-clause-callable
+all-requires-clause-callable c =
     let n = c.args.self.now.size in
     let numbers = c.args.numbers.now in
-    let goal = c.loop-goal.goal in
-    let Goes = Passes c.args.self.now.tiles None in (
-      λ e. absurd (false≢true e),
-      λ all. absurd (not_from_Decides c.row_agrees.result c.row_agrees.ensures c.if-not-row_agrees.true
-          (λ t l. subst (λ d. Shortest Goes t goal d) (sym (row_part n goal t numbers l)) (all goal t c.loop-goal-test.true l))),
-    )
-
-pub loop-goal-preserved : goal.loop-goal-preserved
-loop-goal-preserved c =
-    let n = c.args.self.now.size in
-    let numbers = c.args.numbers.now in
-    let goal = c.loop-goal.goal in
-    let Goes = Passes c.args.self.now.tiles None in
-    λ g t a b. elim (cases_lt g goal) [
-      | inl less ↦ c.loop-goal.invariant g t less b
-      | inr more ↦
-          let is : g ≡ goal = omega arith in
-          subst (λ z. Shortest Goes t z (get_or numbers (z * n + t) 0)) (sym is) (subst (λ d. Shortest Goes t goal d) (row_part n goal t numbers b) (c.row_agrees.ensures.0 c.if-not-row_agrees.false t b))
-    ]
+    let some : 0 < n = omega (arith, c.args.self.now.least) in
+    serves_from_places (YieldsList-from_zip (YieldsList-at c.zip.ensures.first (YieldsList-from_range 0 n n refl (omega arith))) (YieldsList-at c.zip.ensures.second (YieldsList-from_rows n numbers some c.chunks_exact.ensures.size c.chunks_exact.ensures.rest)))
+    (λ x q r. search (rules, tests)) (λ x k l is. let fits = numbered_fits n numbers some c.requires k (x.0, x.1.now) l is in search (rules, tests))
 
 pub returns : goal.returns
-returns c = (λ _ g t a b. c.loop-goal.invariant g t (omega arith) b, λ _. refl)
+returns c =
+    let n = c.args.self.now.size in
+    let numbers = c.args.numbers.now in
+    let some : 0 < n = omega (arith, c.args.self.now.least) in
+    let Agrees = λ (g t d : ℕ). Shortest (Passes c.args.self.now.tiles None) t g d in
+    rows_agree n numbers some c.requires c.all.result Agrees (cases_from_all c.all.new.self _ c.all.result
+    (λ x. (t : ℕ) → t < n → Agrees x.0 t (get_or x.1 t 0))
+    (λ x. ((t : ℕ) → t < n → Agrees x.0 t (get_or x.1 t 0)) → ⊥)
+    c.all.ensures.ran
+    (YieldsList-from_zip (YieldsList-at c.zip.ensures.first (YieldsList-from_range 0 n n refl (omega arith))) (YieldsList-at c.zip.ensures.second (YieldsList-from_rows n numbers some c.chunks_exact.ensures.size c.chunks_exact.ensures.rest)))
+    (λ x q k. search (rules, tests))
+    (λ x q k. search (rules, tests)))
