@@ -69,9 +69,12 @@ impl Search {
         requires { HasRoom self.old }
         ensures { Meets (λ u. Passes joined.now.tiles cut u tile) self.old self.new }
     {
-        for next in joined.tiles[usize::from(tile)].iter().copied().flatten() {
-            if !is_left_out(cut, tile, next) {
-                self.meet(next);
+        // With `iter().copied().flatten()` a survey takes half as long again.
+        for place in &joined.tiles[usize::from(tile)] {
+            if let Some(next) = place
+                && !is_left_out(cut, tile, *next)
+            {
+                self.meet(*next);
             }
         }
     }

@@ -1,38 +1,39 @@
-use Rattle.std.proofs.Common.{[], get_or, sym, subst}
-use Rattle.std.specs.Option.{option_to_list}
-use Rattle.std.proofs.lemmas.Iterator.{YieldsList-from_slice}
-use Rattle.std.proofs.lemmas.Iterator.Adapters.{YieldsList-from_once, YieldsList-from_flatten}
-use Rattle.std.proofs.lemmas.Iterator.Consumers.{YieldsList-from_copied, YieldsList-turn, YieldsList-end}
+-- A place holds a tile to meet, a tile that is left out, or none.
+use Rattle.std.proofs.Common.{◌≡◌, ◌+◌, ◌≤◌, length, get_or, [], None, sym, ap, ◌∙◌, subst, rules, arith}
+use Rattle.std.proofs.lemmas.Bool.{both_ways}
+use Rattle.base.proofs.Testing.{some_not_none}
+use Rattle.drawn_floor.specs.Searches.{left_out}
 use Rattle.drawn_floor.specs.Spreading.{Meets}
-use Rattle.drawn_floor.proofs.Rows.{BehindFirst, NotLeftOut, tiles_in, behind_turn, row_passed, not_left_out_met, left_out_over}
+use Rattle.drawn_floor.specs.Tables.{at_place}
+use Rattle.drawn_floor.proofs.Rows.{Passed, passed_last, passed_over, passed_met}
 use Rattle.drawn_floor.proofs.search.Search.meet_joined.Goals as goal
+use Rattle.drawn_floor.proofs.search.Search.meet_joined.Goals.{in-Some+then-not-is_left_out, in_default, in_default-via-in-None-1, in_default-via-in-Some+else-not-is_left_out}
 
-pub loop-next-preserved-then-not-is_left_out : goal.loop-next-preserved-then-not-is_left_out
-loop-next-preserved-then-not-is_left_out c =
+pub loop-place-preserved : goal.loop-place-preserved
+loop-place-preserved c =
     let tiles = c.args.joined.now.tiles in
     let cut = c.args.cut in
     let tile = c.args.tile in
-    let row = get_or tiles tile [] in
-    let road = YieldsList-from_flatten _ _ (λ x. x) option_to_list (λ x j b. YieldsList-from_once x b.0) (YieldsList-from_copied (YieldsList-from_slice row (cc))) (cc) (cc) (cc) in
-    let turn = YieldsList-turn road c.loop-next.yielded c.loop-next.next-iterator c.loop-next.yielded_by c.next.result c.next.new.self c.in-Some.next c.in-Some.is c.next.ensures.steps in
-    behind_turn (NotLeftOut tiles cut tile) (tiles_in row) c.loop-next.yielded c.in-Some.next turn c.args.self.now c.loop-next.self c.meet.new.self c.loop-next.invariant (not_left_out_met tiles cut tile c.in-Some.next (sym c.if-not-is_left_out.ensures) c.loop-next.self c.meet.new.self c.meet.ensures)
-
-pub loop-next-preserved : goal.loop-next-preserved
-loop-next-preserved c =
-    let tiles = c.args.joined.now.tiles in
-    let cut = c.args.cut in
-    let tile = c.args.tile in
-    let row = get_or tiles tile [] in
-    let road = YieldsList-from_flatten _ _ (λ x. x) option_to_list (λ x j b. YieldsList-from_once x b.0) (YieldsList-from_copied (YieldsList-from_slice row (cc))) (cc) (cc) (cc) in
-    let turn = YieldsList-turn road c.loop-next.yielded c.loop-next.next-iterator c.loop-next.yielded_by c.next.result c.next.new.self c.in-Some.next c.in-Some.is c.next.ensures.steps in
-    behind_turn (NotLeftOut tiles cut tile) (tiles_in row) c.loop-next.yielded c.in-Some.next turn c.args.self.now c.loop-next.self c.loop-next.self c.loop-next.invariant (left_out_over tiles cut tile c.in-Some.next (sym c.if-not-is_left_out.ensures) c.loop-next.self)
+    let k = c.loop-place.place-index in
+    let start = c.args.self.now in
+    let before = c.loop-place.self in
+    let row_is : get_or tiles c.from.result [] ≡ get_or tiles tile [] = ap (λ p. get_or tiles p []) c.from.ensures in
+    let there : at_place tiles tile k ≡ get_or (get_or tiles c.from.result []) k None = ap (λ row. get_or row k None) (sym row_is) in
+    elim c.match-place.branch [
+      | in-Some+then-not-is_left_out w ↦
+          subst (Meets (Passed tiles cut tile (k + 1)) start) (sym w.self-is) (passed_met tiles cut tile k w.in-Some.next (there ∙ w.in-Some.is) (sym w.if-not-is_left_out.ensures) start before w.meet.new.self c.loop-place.invariant w.meet.ensures)
+      | in_default w ↦ subst (Meets (Passed tiles cut tile (k + 1)) start) (sym w.self-is) (elim w.in_default.branch [
+        | in_default-via-in-None-1 w' ↦
+            let none : get_or (get_or tiles c.from.result []) k None ≡ None = search rules in
+            passed_over tiles cut tile k (λ u is kept. some_not_none is (there ∙ none)) start before c.loop-place.invariant
+        | in_default-via-in-Some+else-not-is_left_out w' ↦
+            let place = there ∙ w'.in-Some.is in
+            passed_over tiles cut tile k (λ u is kept. let same : u ≡ w'.in-Some.next = cc in both_ways (left_out cut tile u) kept (ap (left_out cut tile) same ∙ sym w'.if-not-is_left_out.ensures)) start before c.loop-place.invariant
+      ])
+    ]
 
 pub returns : goal.returns
 returns c =
-    let tiles = c.args.joined.now.tiles in
-    let cut = c.args.cut in
-    let tile = c.args.tile in
-    let row = get_or tiles tile [] in
-    let road = YieldsList-from_flatten _ _ (λ x. x) option_to_list (λ x j b. YieldsList-from_once x b.0) (YieldsList-from_copied (YieldsList-from_slice row (cc))) (cc) (cc) (cc) in
-    let all = YieldsList-end road c.loop-next.yielded c.loop-next.next-iterator c.loop-next.yielded_by c.next.result c.next.new.self c.in-None.is c.next.ensures.steps in
-    row_passed tiles cut tile c.args.self.now c.loop-next.self (subst (λ k. Meets (BehindFirst (NotLeftOut tiles cut tile) (tiles_in row) k) c.args.self.now c.loop-next.self) all.1 c.loop-next.invariant)
+    let joined = c.args.joined.now in
+    let all : length (get_or joined.tiles c.args.tile []) ≤ c.loop-place.place-index = omega (arith, joined.wide c.args.tile c.ranges.tile.fits, c.loop-place-test.false) in
+    passed_last joined.tiles c.args.cut c.args.tile c.loop-place.place-index all c.args.self.now c.loop-place.self c.loop-place.invariant

@@ -1,8 +1,7 @@
--- The search has met those tiles of the row that the loop has passed.
-use Rattle.std.proofs.Common.{[], length, get_or}
+-- The search has met those tiles that stand at the places which the loop has passed.
 use Rattle.drawn_floor.specs.Spreading.{Meets}
-use Rattle.drawn_floor.proofs.Rows.{BehindFirst, NotLeftOut, tiles_in}
+use Rattle.drawn_floor.proofs.Rows.{Passed}
 use Rattle.drawn_floor.proofs.search.Search.meet_joined.Given as goal
 
-abbrev pub invariant-loop-next : goal.invariant-loop-next
-invariant-loop-next l = Meets (BehindFirst (NotLeftOut l.joined.tiles l.cut l.tile) (tiles_in (get_or l.joined.tiles l.tile [])) (length l.yielded)) l.initial.self l.self
+abbrev pub invariant-loop-place : goal.invariant-loop-place
+invariant-loop-place l = Meets (Passed l.joined.tiles l.cut l.tile l.place-index) l.initial.self l.self
