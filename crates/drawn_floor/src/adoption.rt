@@ -79,7 +79,7 @@ impl<'a> DrawnFloor<'a> {
     }
 
     // Becomes the floor of these tiles, links and pulls, if they stand as a granted survey leaves them. Else the answer
-    // is no, and the floor stays as it was.
+    // is no, and the floor stays as it was. The answer is a `bool`: numbers that do not stand are no error.
     pub fn adopt(&mut self, size: Tile, links: &'a [u8], pulls: &'a [Pull]) -> bool
         ensures answer { result ≡ stands_surveyed size links.now pulls.now }
         ensures became { result ≡ true → (self.new.joined.size ≡ size) × (self.new.links.now ≡ links.now) × (self.new.pulls.now ≡ pulls.now) }

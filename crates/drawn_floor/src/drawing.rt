@@ -11,7 +11,8 @@ use crate::marks::Marks;
 use base::Refusal;
 use floor::Tile;
 
-// A drawing: tiles from 0 to `size` - 1, and links, of which every two bytes name two joined tiles.
+// A drawing: tiles from 0 to `size` - 1, and links, of which every two bytes name two joined tiles. The public calls take
+// the two apart, as their signatures stand.
 #[derive(Clone, Copy)]
 pub(crate) struct Drawing<'a> {
     pub(crate) size: Tile,

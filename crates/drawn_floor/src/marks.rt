@@ -82,6 +82,7 @@ impl JoinedTiles {
         ensures crowded { MatchOption result (some_is (λ t. nat_lt 6 (length (marked_to size marks.now.marks t))) (below size) ≡ true) (λ _. some_is (λ t. nat_lt 6 (length (marked_to size marks.now.marks t))) (below size) ≡ false) }
         ensures made { IfSome result (λ j. (j.size ≡ size) × Tabled size (marked_to size marks.now.marks) j.tiles) }
     {
+        // Not by `zip` with `&mut tiles`: of an array that such a loop wrote, a proof knows the length and no row.
         let mut tiles = [[None; MOST]; TILES];
         for tile in 0..size {
             tiles[usize::from(tile)] = marks.row(size, tile)?;

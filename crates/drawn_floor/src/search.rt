@@ -13,7 +13,8 @@ pub(crate) type Steps = [Option<Pull>; TILES];
 // Tiles that are equally far from a goal.
 type Layer = ArrayVec<Tile, TILES>;
 
-// A search that spreads from its goal, layer by layer.
+// A search that spreads from its goal, layer by layer. The table of joined tiles and the pair that is left out are no
+// fields of it: each relation of two searches would have to say that they stay.
 #[derive(Drop)]
 struct Search {
     steps: Steps,

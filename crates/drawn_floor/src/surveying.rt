@@ -30,6 +30,7 @@ impl JoinedTiles {
         ensures found { (g t d : ℕ) → g < self.now.size → t < self.now.size → Shortest (Passes self.now.tiles None) t g d → slice_index distances.new (g * self.now.size + t) ≡ d }
         ensures beyond { drop (self.now.size * self.now.size) distances.new ≡ drop (self.now.size * self.now.size) distances.old }
     {
+        // Not by `chunks_exact_mut`: of a list that such a loop wrote, a proof knows the length and no number.
         let width = self.size as usize;
         for goal in 0..self.size {
             let start = goal as usize * width;

@@ -11,6 +11,7 @@ pub enum Stop {
     NoMemory(AllocError),
 }
 
+// Both conversions are written by hand, since a clause names the error that `?` makes.
 impl From<Fault> for Stop {
     ghost from_gives = { λ fault stop. stop ≡ Faulty fault };
 

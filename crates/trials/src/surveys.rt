@@ -9,7 +9,8 @@ use std::test::Fail;
 // Tile 0 joined to the tiles 1 to 7.
 const STAR: [u8; 14] = [0, 1, 0, 2, 0, 3, 0, 4, 0, 5, 0, 6, 0, 7];
 
-// A survey that is handed `places` sevens, 64 at most, is refused so and leaves each of them.
+// A survey that is handed `places` sevens, 64 at most, is refused so and leaves each of them. The list
+// is an array, since a `Vec` would ask each test for the runtime.
 fn refused(places: usize, size: Tile, links: &[u8], refusal: Refusal) -> Result<(), Fail> {
     let mut numbers = [7; 64];
     check(places <= 64)?;
