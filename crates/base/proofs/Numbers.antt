@@ -1,11 +1,11 @@
 -- Lists of numbers: what is in them, the greatest of them, and how many numbers fit below a bound.
 use Rattle.std.proofs.Common.{◌≡◌, ℕ, zero, suc, ◌+◌, ◌-◌, ◌<◌, ◌≤◌, min, Bool, true, false, cond, ◌&&◌, eqb, ltb, List, [], ◌∷◌, ◌++◌, length, get_or, Decides, sym, refl, ap, ◌∙◌, ⊎_elim, add-one, arith}
-use Rattle.std.specs.List.{range_with_len}
+use Rattle.std.specs.List.{range_with_len, list_any}
 use Rattle.std.proofs.lemmas.List.FromFn.{length-range_with_len, get_or-range_with_len, map-range_with_len_more}
 use Rattle.std.proofs.lemmas.List.{append-nil, get_or_default, length_push, map-id}
 use Rattle.std.proofs.lemmas.Bool.{both_ways, cases_lt, cases_Bool, eqb-true, eq-eqb, lt-ltb, le-ltb}
 use Rattle.std.proofs.lemmas.Bool.Decides.{Decides-at, Decides-like, Decides-and, Decides-ltb, Decides-by_or, same_from_decides, nat_tests}
-use Rattle.base.specs.Lists.{below, those, some_is, is_among, greatest}
+use Rattle.base.specs.Lists.{below, those, is_among, greatest}
 use Rattle.base.proofs.Ascending.{those_take, those_skip, false_by}
 
 pub greatest_bound : (xs : List ℕ) (i : ℕ) → i < length xs → get_or xs i 0 ≤ greatest xs
@@ -52,66 +52,30 @@ module _ (p : ℕ → Bool) (n : ℕ) where
   unfolding those
   those_more_no e = ap (those p) (below_more n) ∙ those-append p (below n) (n ∷ []) ∙ ap (λ zs. those p (below n) ++ zs) (those_skip p n [] e) ∙ append-nil (those p (below n))
 
-  -- a larger bound takes none away
-  those_grow : length (those p (below n)) ≤ length (those p (below (n + 1)))
-  those_grow = ⊎_elim
-      (λ e. omega (arith, ap length (those_more_yes e), length_push (those p (below n)) n))
-      (λ e. omega (arith, ap length (those_more_no e)))
-      (cases_Bool (p n))
-
-pub length-those_le : (p : ℕ → Bool) (m n : ℕ) → m ≤ n → length (those p (below m)) ≤ length (those p (below n))
-length-those_le p m zero l = let e : m ≡ 0 = omega arith in omega (arith, ap (λ k. length (those p (below k))) e)
-length-those_le p m (suc n) l = ⊎_elim
-    (λ (h : m < suc n). omega (arith, length-those_le p m n (omega arith), those_grow p n, ap (λ k. length (those p (below k))) (add-one n)))
-    (λ (h : suc n ≤ m). let e : m ≡ suc n = omega arith in omega (arith, ap (λ k. length (those p (below k))) e))
-    (cases_lt m (suc n))
-
-those_below_none : (p : ℕ → Bool) → those p (below 0) ≡ []
-unfolding those below
-those_below_none p = refl
-
--- tests that agree below the bound
-pub those_same : (p q : ℕ → Bool) (n : ℕ) → ((k : ℕ) → k < n → p k ≡ q k) → those p (below n) ≡ those q (below n)
-those_same p q zero same = those_below_none p ∙ sym (those_below_none q)
-those_same p q (suc n) same =
-    let old = those_same p q n (λ k l. same k (omega arith)) in
-    let here = same n (omega arith) in
-    ap (λ k. those p (below k)) (sym (add-one n))
-    ∙ ⊎_elim
-    (λ e. those_more_yes p n e ∙ ap (λ zs. zs ++ n ∷ []) old ∙ sym (those_more_yes q n (sym here ∙ e)))
-    (λ e. those_more_no p n e ∙ old ∙ sym (those_more_no q n (sym here ∙ e)))
-    (cases_Bool (p n))
-    ∙ ap (λ k. those q (below k)) (add-one n)
-
 -- a test decides that it passes
 pub decides_itself : (b : Bool) → Decides b (b ≡ true)
 decides_itself b = (λ e. e, λ e. e)
 
-pub some_in : {X : Type 0} (p : X → Bool) (xs : List X) (d : X) → Decides (some_is p xs) ((i : ℕ) × (i < length xs) × (p (get_or xs i d) ≡ true))
-some_in p xs d = Decides-like (some_is p xs) (λ h. (h.0, h.1, h.2 d)) (λ h. (h.0, h.1, λ e. ap p (get_or_default xs h.0 e d h.1) ∙ h.2))
-    (Decides-by_or p (λ x. p x ≡ true) (some_is p) (λ x. decides_itself (p x)) refl (λ _ _. refl) xs)
+pub some_in : {X : Type 0} (p : X → Bool) (xs : List X) (d : X) → Decides (list_any p xs) ((i : ℕ) × (i < length xs) × (p (get_or xs i d) ≡ true))
+some_in p xs d = Decides-like (list_any p xs) (λ h. (h.0, h.1, h.2 d)) (λ h. (h.0, h.1, λ e. ap p (get_or_default xs h.0 e d h.1) ∙ h.2))
+    (Decides-by_or p (λ x. p x ≡ true) (list_any p) (λ x. decides_itself (p x)) refl (λ _ _. refl) xs)
 
-pub some_below : (p : ℕ → Bool) (n : ℕ) → Decides (some_is p (below n)) ((t : ℕ) × (t < n) × (p t ≡ true))
-some_below p n = Decides-like (some_is p (below n))
+pub some_below : (p : ℕ → Bool) (n : ℕ) → Decides (list_any p (below n)) ((t : ℕ) × (t < n) × (p t ≡ true))
+some_below p n = Decides-like (list_any p (below n))
     (λ h. let l : h.0 < n = omega (arith, length-below n, h.1) in (h.0, l, ap p (sym (get_or-below n h.0 0 l)) ∙ h.2))
     (λ h. (h.0, omega (arith, length-below n, h.1), ap p (get_or-below n h.0 0 h.1) ∙ h.2))
     (some_in p (below n) 0)
 
 -- each of a list fails a test that none passes
-pub none_in : {X : Type 0} (p : X → Bool) (xs : List X) (d : X) → some_is p xs ≡ false → (i : ℕ) → i < length xs → p (get_or xs i d) ≡ false
-none_in p xs d none i l = false_by (p (get_or xs i d)) (λ e. both_ways (some_is p xs) none ((some_in p xs d).1 (i, l, e)))
+pub none_in : {X : Type 0} (p : X → Bool) (xs : List X) (d : X) → list_any p xs ≡ false → (i : ℕ) → i < length xs → p (get_or xs i d) ≡ false
+none_in p xs d none i l = false_by (p (get_or xs i d)) (λ e. both_ways (list_any p xs) none ((some_in p xs d).1 (i, l, e)))
 
-pub none_below : (p : ℕ → Bool) (n : ℕ) → some_is p (below n) ≡ false → (t : ℕ) → t < n → p t ≡ false
-none_below p n none t l = false_by (p t) (λ e. both_ways (some_is p (below n)) none ((some_below p n).1 (t, l, e)))
-
-pub some_same : (p q : ℕ → Bool) (n : ℕ) → ((k : ℕ) → k < n → p k ≡ q k) → some_is p (below n) ≡ some_is q (below n)
-some_same p q n same = same_from_decides (some_is p (below n)) (some_is q (below n))
-    (Decides-like (some_is p (below n)) (λ h. (h.0, h.1, sym (same h.0 h.1) ∙ h.2)) (λ h. (h.0, h.1, same h.0 h.1 ∙ h.2)) (some_below p n))
-    (some_below q n)
+pub none_below : (p : ℕ → Bool) (n : ℕ) → list_any p (below n) ≡ false → (t : ℕ) → t < n → p t ≡ false
+none_below p n none t l = false_by (p t) (λ e. both_ways (list_any p (below n)) none ((some_below p n).1 (t, l, e)))
 
 -- some one of the list passes
-pub some_among : (p : ℕ → Bool) (xs : List ℕ) → Decides (some_is p xs) ((u : ℕ) × (is_among u xs ≡ true) × (p u ≡ true))
-some_among p xs = Decides-like (some_is p xs)
+pub some_among : (p : ℕ → Bool) (xs : List ℕ) → Decides (list_any p xs) ((u : ℕ) × (is_among u xs ≡ true) × (p u ≡ true))
+some_among p xs = Decides-like (list_any p xs)
     (λ h. let u = get_or xs h.0 0 in (u, (some_in (eqb u) xs 0).1 (h.0, h.1, eq-eqb u u refl), h.2))
     (λ h. let r = (some_in (eqb h.0) xs 0).0 h.1 in (r.0, r.1, ap p (sym (eqb-true h.0 (get_or xs r.0 0) r.2)) ∙ h.2))
     (some_in p xs 0)

@@ -22,10 +22,6 @@ pub passed_all : (xs : List (Bool × Refusal)) → first_refusal xs ≡ None →
 passed_all [] e = tt
 passed_all ((b, r) ∷ xs) e = let h = passed_first b r xs e in (h.0, passed_all xs h.1)
 
-pub all_passed : (xs : List (Bool × Refusal)) → All (λ x. x.0 ≡ false) xs → first_refusal xs ≡ None
-all_passed [] h = refl
-all_passed ((b, r) ∷ xs) h = rw (h.0, first_refusal) (all_passed xs h.1)
-
 pub passed_on : (xs ys : List (Bool × Refusal)) → first_refusal xs ≡ None → first_refusal (xs ++ ys) ≡ first_refusal ys
 passed_on [] ys e = refl
 passed_on ((true, r) ∷ xs) ys e = cc
@@ -46,15 +42,3 @@ pub number_given : (P : ℕ → Type 0) (xs : List (Bool × Refusal)) (r : Refus
 number_given P [] r all e = absurd cc
 number_given P ((true, q) ∷ xs) r all e = let s : q ≡ r = cc in rw s at all.0
 number_given P ((false, q) ∷ xs) r all e = number_given P xs r all.1 e
-
--- a value that may be missing, refused where it is
-pub refused_by : {X : Type 0} (o : Option X) (b : Bool) (r : Refusal) → MatchOption o (b ≡ true) (λ _. b ≡ false) → result_err (ok_or o r) ≡ first_refusal ((b, r) ∷ [])
-refused_by None b r e = rw (e, first_refusal)
-refused_by (Some x) b r e = rw (e, first_refusal)
-
-pub made_of : {X : Type 0} (o : Option X) (r : Refusal) (P : X → Type 0) → IfSome o P → IfOk (ok_or o r) P
-made_of None r P h = tt
-made_of (Some x) r P h = h
-
-pub cases_map : {X : Type 0} {P Q : X → Type 0} (o : Option X) → ((x : X) → P x → Q x) → IfSome o P → IfSome o Q
-cases_map o f h = IfSome_then o h f

@@ -1,6 +1,6 @@
 -- Lists of numbers: those below a bound, those that pass a test, and the greatest of them.
 use Rattle.std.specs.Prelude.{◌≡◌, ℕ, max, Bool, true, false, ◌||◌, ◌⊎◌, List, [], ◌∷◌, ◌≢◌, nat_eq}
-use Rattle.std.specs.List.{range_with_len}
+use Rattle.std.specs.List.{range_with_len, list_any}
 
 -- the numbers below n, ascending
 unfoldable pub below : ℕ → List ℕ
@@ -11,14 +11,9 @@ unfoldable pub those : (ℕ → Bool) → List ℕ → List ℕ
 those test [] = []
 those test (x ∷ xs) = elim (test x) [ true ↦ x ∷ those test xs | false ↦ those test xs ]
 
--- whether one of a list passes a test
-abbrev pub some_is : {X : Type 0} → (X → Bool) → List X → Bool
-some_is test [] = false
-some_is test (x ∷ xs) = test x || some_is test xs
-
 -- whether x is one of the list
 abbrev pub is_among : ℕ → List ℕ → Bool
-is_among x xs = some_is (nat_eq x) xs
+is_among x xs = list_any (nat_eq x) xs
 
 -- the greatest of the list, 0 where there is none
 abbrev pub greatest : List ℕ → ℕ

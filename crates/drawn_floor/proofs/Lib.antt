@@ -3,7 +3,6 @@ mod Chunking
 mod Finding
 mod Marking
 mod Measuring
-mod Pairs
 mod Rows
 mod Spreading
 mod Tabling

@@ -14,10 +14,6 @@ abbrev pub Passed : List (List (Option ℕ)) → Option (ℕ × ℕ) → ℕ →
 Passed tiles cut t k u = ((j : ℕ) × (j < k) × (at_place tiles t j ≡ Some u)) × (left_out cut t u ≡ false)
 
 module _ (tiles : List (List (Option ℕ))) (cut : Option (ℕ × ℕ)) (t : ℕ) where
-  -- no place was passed
-  pub passed_first : (s : Search) → Meets (Passed tiles cut t 0) s s
-  passed_first s = meets_none s (λ u h. omega (arith, h.0.1))
-
   -- all were passed
   pub passed_last : (k : ℕ) → length (get_or tiles t []) ≤ k → (r s : Search) → Meets (Passed tiles cut t k) r s → Meets (λ u. Passes tiles cut u t) r s
   passed_last k all r s = meets_as r s (λ u h. ((h.0.0, h.0.2), h.1)) (λ u h. ((h.0.0, within h.0.0 u h.0.1, h.0.1), h.1))
@@ -62,10 +58,6 @@ abbrev pub BehindFirst : (ℕ → ℕ → Type 0) → List ℕ → ℕ → ℕ �
 BehindFirst Goes layer k u = (i : ℕ) × (i < k) × Goes u (get_or layer i 0)
 
 module _ (Goes : ℕ → ℕ → Type 0) (layer : List ℕ) where
-  -- no tile of the layer was passed
-  pub behind_first : (s : Search) → Meets (BehindFirst Goes layer 0) s s
-  behind_first s = meets_none s (λ u h. omega (arith, h.1))
-
   -- one tile more was passed
   pub behind_more : (k : ℕ) → (r s after : Search) → Meets (BehindFirst Goes layer k) r s → Meets (λ u. Goes u (get_or layer k 0)) s after → Meets (BehindFirst Goes layer (k + 1)) r after
   behind_more k r s after before now =

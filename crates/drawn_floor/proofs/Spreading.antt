@@ -24,18 +24,6 @@ none_at row {place} {u} there none = elim (cases_option (steps_of row u)) [
 same_some : {o : Option ℕ} {d e : ℕ} → o ≡ Some d → o ≡ Some e → d ≡ e
 same_some p q = cc
 
--- nothing is new where all were met before
-pub spreads_none : {Next : ℕ → Type 0} (d : ℕ) (row : List (Option ℕ)) → ((u : ℕ) → Next u → IsSome (steps_of row u)) → Spreads Next d row row []
-spreads_none d row met = record {
-  long = refl;
-  kept = λ u e h. h;
-  new = λ u e h. inl h;
-  all = met;
-  listed = λ i l. absurd (omega arith);
-  back = λ u e none some. absurd (some_not_none some none);
-  count = omega arith;
-}
-
 -- a tile that is met leaves one fewer
 unmet_set : (row : List (Option ℕ)) (u d : ℕ) → u < length row → steps_of row u ≡ None → unmet (set row u (Some d)) + 1 ≡ unmet row
 unmet_set [] u d h none = absurd (omega arith)
@@ -247,7 +235,3 @@ meets_then {Second = Second} r s t one two = (
 -- the same tiles, named otherwise
 pub meets_as : {Next Other : ℕ → Type 0} (s t : Search) → ((u : ℕ) → Next u → Other u) → ((u : ℕ) → Other u → Next u) → Meets Next s t → Meets Other s t
 meets_as s t to from m = (m.0, (m.1.0, m.1.1, spreads_as to from m.1.2))
-
--- no tile is named
-pub meets_none : {Next : ℕ → Type 0} (s : Search) → ((u : ℕ) → Next u → ⊥) → Meets Next s s
-meets_none s none = (refl, ([], sym (append-nil s.layer.items), spreads_none s.far s.steps (λ u next. absurd (none u next))))

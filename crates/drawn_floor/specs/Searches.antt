@@ -21,3 +21,7 @@ Found Goes t g (Some d) = Shortest Goes t g d
 -- what a row holds for each tile
 abbrev pub Filled : (ℕ → ℕ → Type 0) → ℕ → List (Option ℕ) → Type 0
 Filled Goes g row = (t : ℕ) → Found Goes t g (slice_index_or row t None)
+
+-- d is the steps of a shortest walk from t to g over the table
+abbrev pub IsSteps : List (List (Option ℕ)) → ℕ → ℕ → ℕ → Type 0
+IsSteps tiles t g d = Shortest (Passes tiles None) t g d

@@ -1,9 +1,8 @@
-ghost use Rattle.std.specs.Prelude.{◌≡◌, ℕ, ◌+◌, ◌*◌, ◌<◌, ◌≤◌, true, false, length, is_some, IfSome, None, Decides, slice_index};
+ghost use Rattle.std.specs.Prelude.{◌≡◌, ℕ, ◌+◌, ◌*◌, ◌<◌, ◌≤◌, true, false, length, is_some, IfSome, Decides, slice_index};
 ghost use Rattle.base.specs.Lists.{greatest};
 ghost use Rattle.floor.specs.Drawn.{stands_surveyed};
-ghost use Rattle.floor.specs.Walks.{Shortest};
 ghost use Rattle.drawn_floor.specs.Rings.{ring_links, ring_pulls};
-ghost use Rattle.drawn_floor.specs.Searches.{Passes};
+ghost use Rattle.drawn_floor.specs.Searches.{IsSteps};
 
 use crate::drawing::Drawing;
 use crate::drawn::DrawnFloor;
@@ -18,7 +17,7 @@ impl JoinedTiles {
     // Whether the numbers are the steps of shortest walks to this goal.
     fn row_agrees(&self, goal: Tile, numbers: &[Pull]) -> bool
         requires { length numbers.now ≡ self.now.size }
-        ensures { Decides result ((t : ℕ) → t < self.now.size → Shortest (Passes self.now.tiles None) t goal (slice_index numbers.now t)) }
+        ensures { Decides result ((t : ℕ) → t < self.now.size → IsSteps self.now.tiles t goal (slice_index numbers.now t)) }
     {
         let steps = self.search(goal, None);
         numbers
@@ -30,7 +29,7 @@ impl JoinedTiles {
     // Whether the numbers are the steps of shortest walks, for each goal.
     fn agrees(&self, numbers: &[Pull]) -> bool
         requires { self.now.size * self.now.size ≤ length numbers.now }
-        ensures { Decides result ((g t : ℕ) → g < self.now.size → t < self.now.size → Shortest (Passes self.now.tiles None) t g (slice_index numbers.now (g * self.now.size + t))) }
+        ensures { Decides result ((g t : ℕ) → g < self.now.size → t < self.now.size → IsSteps self.now.tiles t g (slice_index numbers.now (g * self.now.size + t))) }
     {
         (0..self.size)
             .zip(numbers.chunks_exact(self.size as usize))

@@ -21,9 +21,9 @@ pub(crate) struct Drawing<'a> {
 
 impl<'a> Drawing<'a> {
     fn pairs(&self) -> Pairs<'a>
-        ensures { pairs_of result.links.now ≡ pairs_of self.now.links.now }
+        ensures { result ≡ pairs_of self.now.links.now }
     {
-        Pairs { links: self.links }
+        Pairs::of(self.links)
     }
 
     // Whether some pair names a tile that is not one of the drawing.

@@ -1,7 +1,7 @@
 ghost use Rattle.std.specs.Prelude.{◌≡◌, ℕ, ◌≤◌, true, false, ◌&&◌, ◌||◌, ◌==◌, length, IfSome, MatchOption, nat_lt};
-ghost use Rattle.std.specs.List.{slice_get};
-ghost use Rattle.base.specs.Lists.{below, some_is};
-ghost use Rattle.floor.specs.Links.{joins_two, pairs_of};
+ghost use Rattle.std.specs.List.{slice_get, list_any};
+ghost use Rattle.base.specs.Lists.{below};
+ghost use Rattle.floor.specs.Links.{joins_two};
 ghost use Rattle.floor.specs.Survey.{joins_again};
 ghost use Rattle.drawn_floor.specs.Marks.{marked, Marked, marked_to};
 ghost use Rattle.drawn_floor.specs.Tables.{Rowed, Tabled};
@@ -21,7 +21,7 @@ pub(crate) struct Marks {
 impl Marks {
     // Marks for the tiles that the pairs join; none where two pairs join the same tiles.
     pub(crate) fn of(pairs: Pairs) -> Option<Marks>
-        ensures { MatchOption result (joins_again (pairs_of pairs.entry.links.now) ≡ true) (λ m. (joins_again (pairs_of pairs.entry.links.now) ≡ false) × Marked (pairs_of pairs.entry.links.now) m.marks) }
+        ensures { MatchOption result (joins_again pairs.entry ≡ true) (λ m. (joins_again pairs.entry ≡ false) × Marked pairs.entry m.marks) }
     {
         let mut marks = Marks {
             marks: [[false; 256]; 256],
@@ -79,7 +79,7 @@ impl JoinedTiles {
     // The tiles that are marked as joined, or none where they are more than six to some tile.
     pub(crate) fn marked(size: Tile, marks: &Marks) -> Option<JoinedTiles>
         requires { 3 ≤ size }
-        ensures crowded { MatchOption result (some_is (λ t. nat_lt 6 (length (marked_to size marks.now.marks t))) (below size) ≡ true) (λ _. some_is (λ t. nat_lt 6 (length (marked_to size marks.now.marks t))) (below size) ≡ false) }
+        ensures crowded { MatchOption result (list_any (λ t. nat_lt 6 (length (marked_to size marks.now.marks t))) (below size) ≡ true) (λ _. list_any (λ t. nat_lt 6 (length (marked_to size marks.now.marks t))) (below size) ≡ false) }
         ensures made { IfSome result (λ j. (j.size ≡ size) × Tabled size (marked_to size marks.now.marks) j.tiles) }
     {
         // Not by `zip` with `&mut tiles`: of an array that such a loop wrote, a proof knows the length and no row.

@@ -1,9 +1,8 @@
-ghost use Rattle.std.specs.Prelude.{◌≡◌, ℕ, ◌+◌, ◌*◌, ◌<◌, ◌≤◌, true, length, drop, is_ok, None, slice_index};
+ghost use Rattle.std.specs.Prelude.{◌≡◌, ℕ, ◌+◌, ◌*◌, ◌<◌, ◌≤◌, true, length, drop, is_ok, slice_index};
 ghost use Rattle.std.specs.Result.{result_err};
 ghost use Rattle.floor.specs.Drawn.{Surveyed, stands_surveyed};
 ghost use Rattle.floor.specs.Survey.{survey_refusal, after_survey};
-ghost use Rattle.floor.specs.Walks.{Shortest};
-ghost use Rattle.drawn_floor.specs.Searches.{Passes};
+ghost use Rattle.drawn_floor.specs.Searches.{IsSteps};
 
 use crate::drawing::Drawing;
 use crate::joined_tiles::JoinedTiles;
@@ -14,7 +13,7 @@ impl JoinedTiles {
     // Writes for each tile that has a walk to the goal the steps of a shortest one.
     fn measure_to(&self, goal: Tile, row: &mut [Pull])
         requires { length row.old ≡ self.now.size }
-        ensures { (t d : ℕ) → t < self.now.size → Shortest (Passes self.now.tiles None) t goal d → slice_index row.new t ≡ d }
+        ensures { (t d : ℕ) → t < self.now.size → IsSteps self.now.tiles t goal d → slice_index row.new t ≡ d }
     {
         let found = self.search(goal, None);
         for (tile, place) in row.iter_mut().enumerate() {
@@ -27,7 +26,7 @@ impl JoinedTiles {
     // Writes to place g * n + t, for each of the n tiles t and g, the steps of a shortest walk from t to g, if there is one.
     fn measure(&self, distances: &mut [Pull])
         requires { self.now.size * self.now.size ≤ length distances.old }
-        ensures found { (g t d : ℕ) → g < self.now.size → t < self.now.size → Shortest (Passes self.now.tiles None) t g d → slice_index distances.new (g * self.now.size + t) ≡ d }
+        ensures found { (g t d : ℕ) → g < self.now.size → t < self.now.size → IsSteps self.now.tiles t g d → slice_index distances.new (g * self.now.size + t) ≡ d }
         ensures beyond { drop (self.now.size * self.now.size) distances.new ≡ drop (self.now.size * self.now.size) distances.old }
     {
         // Not by `chunks_exact_mut`: of a list that such a loop wrote, a proof knows the length and no number.

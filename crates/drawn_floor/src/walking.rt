@@ -1,5 +1,4 @@
 ghost use Rattle.std.specs.Prelude.{◌≡◌, ℕ, ◌<◌, false, length, get_or, Some, None, Decides, slice_index_or};
-ghost use Rattle.floor.specs.Links.{pairs_of};
 ghost use Rattle.floor.specs.Survey.{names_stranger};
 ghost use Rattle.floor.specs.Walks.{Walk};
 ghost use Rattle.drawn_floor.specs.Searches.{Passes};
@@ -27,7 +26,7 @@ impl JoinedTiles {
 
     // Whether some pair is in no ring.
     pub(crate) fn has_neck(&self, mut pairs: Pairs) -> bool
-        ensures { Decides result ((i : ℕ) × (i < length (pairs_of pairs.entry.links.now)) × (((k : ℕ) × Walk (Passes self.now.tiles (Some (slice_index_or (pairs_of pairs.entry.links.now) i (0, 0)))) (get_or (pairs_of pairs.entry.links.now) i (0, 0)).0 (get_or (pairs_of pairs.entry.links.now) i (0, 0)).1 k) → ⊥)) }
+        ensures { Decides result ((i : ℕ) × (i < length pairs.entry) × (((k : ℕ) × Walk (Passes self.now.tiles (Some (slice_index_or pairs.entry i (0, 0)))) (get_or pairs.entry i (0, 0)).0 (get_or pairs.entry i (0, 0)).1 k) → ⊥)) }
     {
         pairs.any(|pair| !self.is_in_ring(pair))
     }

@@ -20,9 +20,5 @@ module _ (floor : FloorModel) where
   pub joined_none : Laws floor → (t : ℕ) → floor.size ≤ t → joined_to floor t ≡ []
   joined_none laws = none_joined laws.tiles_only
 
-  -- no tile is joined at a seventh place
-  pub joined_past : Laws floor → (t k : ℕ) → 6 ≤ k → slice_get (joined_to floor t) k ≡ None
-  joined_past laws t k l = slice_get_past (joined_to floor t) k (omega (arith, laws.at_most_six t))
-
   pub pull_known : (t g : ℕ) → IsTile floor t → IsTile floor g → Some (floor.pull t g) ≡ pull_between floor t g
   pull_known t g lt lg = sym (ap (λ b. elim b as (λ x. Option ℕ) [ true ↦ Some (floor.pull t g) | false ↦ None ]) (and_from (ltb t floor.size) (ltb g floor.size) (lt-ltb t floor.size lt) (lt-ltb g floor.size lg)))

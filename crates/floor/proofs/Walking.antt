@@ -1,8 +1,9 @@
 -- Walks, shortest walks, and that the counted distance is the length of a shortest one.
 use Rattle.std.proofs.Common.{◌≡◌, ℕ, zero, suc, ◌+◌, ◌-◌, ◌<◌, ◌≤◌, min, Bool, true, false, not, ◌||◌, eqb, ◌⊎◌, List, Decides, sym, refl, subst, inl, inr, ⊎_elim, arith}
+use Rattle.std.specs.List.{list_any}
 use Rattle.std.proofs.lemmas.Bool.{false≢true, cases_lt, eqb-true, eq-eqb, or_cases, or_left}
 use Rattle.std.proofs.lemmas.Bool.Decides.{Decides-like, Decides-or, Decides-eqb, Decides-not}
-use Rattle.base.specs.Lists.{some_is, is_among}
+use Rattle.base.specs.Lists.{is_among}
 use Rattle.base.proofs.Numbers.{decides_itself, some_among, those_among, length-those-below, Least, least_passing, pigeons}
 use Rattle.floor.specs.Walks.{Walk, stay, step, Shortest, By, one_step_more, within, comes_to, distance}
 
@@ -50,7 +51,7 @@ near_decides joins n near t =
     Decides-like (is_among t (one_step_more joins n near))
     (λ h. let r = found.0 h.1 in (h.0, (r.0, r.1, (tests r.0).0 r.2)))
     (λ h. (h.0, found.1 (h.1.0, h.1.1, (tests h.1.0).1 h.1.2)))
-    (those_among (λ t. some_is (test t) near) n t)
+    (those_among (λ t. list_any (test t) near) n t)
 
 pub within_sound : (joins : ℕ → ℕ → Bool) (n g k t : ℕ) → is_among t (within joins n g k) ≡ true → (m : ℕ) × (m ≤ k) × Walk (By joins) t g m
 unfolding within

@@ -1,6 +1,7 @@
 -- The links of a drawn floor: every two bytes name two joined tiles.
 use Rattle.std.specs.Prelude.{ℕ, Bool, ◌&&◌, ◌||◌, List, [], ◌∷◌, ◌==◌}
-use Rattle.base.specs.Lists.{some_is, below, those}
+use Rattle.std.specs.List.{list_any}
+use Rattle.base.specs.Lists.{below, those}
 
 -- the pairs that the bytes name, in their order; an odd byte at the end names none
 abbrev pub pairs_of : List ℕ → List (ℕ × ℕ)
@@ -14,7 +15,7 @@ joins_two p a b = (p.0 == a && p.1 == b) || (p.0 == b && p.1 == a)
 
 -- whether one of the pairs joins a and b
 abbrev pub linked : List (ℕ × ℕ) → ℕ → ℕ → Bool
-linked ps a b = some_is (λ p. joins_two p a b) ps
+linked ps a b = list_any (λ p. joins_two p a b) ps
 
 -- the tiles below n that are joined to t, ascending
 abbrev pub linked_to : ℕ → List (ℕ × ℕ) → ℕ → List ℕ

@@ -1,6 +1,7 @@
 -- The survey of a drawn floor: its tests, in their order, and the distances that it writes.
 use Rattle.std.specs.Prelude.{ℕ, ◌*◌, ◌/◌, ◌%◌, Bool, false, not, ◌&&◌, ◌||◌, ltb, List, [], ◌∷◌, ◌++◌, map, length, drop, Some, None, Option, ◌==◌, nat_eq, nat_le, nat_lt}
-use Rattle.base.specs.Lists.{below, some_is}
+use Rattle.std.specs.List.{list_any}
+use Rattle.base.specs.Lists.{below}
 use Rattle.base.specs.Refusals.{first_refusal}
 use Rattle.base.specs.declared.refusal.Refusal.{Refusal}
 use Rattle.base.specs.declared.refusal.Refusal.TheVariants.{Size, Ragged, Stranger, SelfPair, Twice, Crowded, Split, Neck, ShortList}
@@ -9,11 +10,11 @@ use Rattle.floor.specs.Walks.{comes_to, distance}
 
 -- a pair names a tile that is not below n
 abbrev pub names_stranger : ℕ → List (ℕ × ℕ) → Bool
-names_stranger n ps = some_is (λ p. nat_le n p.0 || nat_le n p.1) ps
+names_stranger n ps = list_any (λ p. nat_le n p.0 || nat_le n p.1) ps
 
 -- a pair names one tile twice
 abbrev pub names_itself : List (ℕ × ℕ) → Bool
-names_itself ps = some_is (λ p. nat_eq p.0 p.1) ps
+names_itself ps = list_any (λ p. nat_eq p.0 p.1) ps
 
 -- two pairs join the same tiles
 abbrev pub joins_again : List (ℕ × ℕ) → Bool
@@ -22,11 +23,11 @@ joins_again (p ∷ ps) = linked ps p.0 p.1 || joins_again ps
 
 -- a tile has more than six joined tiles
 abbrev pub is_crowded : ℕ → List (ℕ × ℕ) → Bool
-is_crowded n ps = some_is (λ t. ltb 6 (length (linked_to n ps t))) (below n)
+is_crowded n ps = list_any (λ t. ltb 6 (length (linked_to n ps t))) (below n)
 
 -- a tile has no walk to tile 0
 abbrev pub is_split : ℕ → List (ℕ × ℕ) → Bool
-is_split n ps = some_is (λ t. not (comes_to (linked ps) n t 0)) (below n)
+is_split n ps = list_any (λ t. not (comes_to (linked ps) n t 0)) (below n)
 
 -- two tiles are joined, and not by the pair p
 abbrev pub linked_without : List (ℕ × ℕ) → ℕ × ℕ → ℕ → ℕ → Bool
@@ -38,7 +39,7 @@ is_in_ring n ps p = comes_to (linked_without ps p) n p.0 p.1
 
 -- a joined pair is in no ring
 abbrev pub has_neck : ℕ → List (ℕ × ℕ) → Bool
-has_neck n ps = some_is (λ p. not (is_in_ring n ps p)) ps
+has_neck n ps = list_any (λ p. not (is_in_ring n ps p)) ps
 
 -- the tests of the links alone
 abbrev pub link_tests : ℕ → List ℕ → List (Bool × Refusal)

@@ -1,6 +1,7 @@
 -- Walks from tile to joined tile, shortest walks, and how their steps are counted.
 use Rattle.std.specs.Prelude.{◌≡◌, ℕ, zero, suc, ◌≤◌, Bool, true, not, ◌||◌, List, [], ◌∷◌, length, ◌==◌}
-use Rattle.base.specs.Lists.{below, those, some_is, is_among}
+use Rattle.std.specs.List.{list_any}
+use Rattle.base.specs.Lists.{below, those, is_among}
 
 -- a walk of so many steps from a to b, where `Goes a b` says that one may go from a to b in one step
 pub data Walk (Goes : ℕ → ℕ → Type 0) : ℕ → ℕ → ℕ → Type 0 where
@@ -18,7 +19,7 @@ By joins a b = joins a b ≡ true
 
 -- of n tiles, those that are in `near` or from which one may go to a tile of it, ascending
 abbrev pub one_step_more : (ℕ → ℕ → Bool) → ℕ → List ℕ → List ℕ
-one_step_more joins n near = those (λ t. some_is (λ u. (t == u) || joins t u) near) (below n)
+one_step_more joins n near = those (λ t. list_any (λ u. (t == u) || joins t u) near) (below n)
 
 -- of n tiles, those from which one comes to g in at most so many steps
 unfoldable pub within : (ℕ → ℕ → Bool) → ℕ → ℕ → ℕ → List ℕ

@@ -18,6 +18,7 @@ pub fn report(heap: Global, sheet: &[u8]) -> Result<String, AllocError>
     let mut out = String::new(heap);
     match Reader::new(sheet) {
         Ok(reader) => Run { reader, out }.text(),
+        // A sheet without a reader has no run, whose method else writes this line.
         Err(fault) => {
             writeln!(out, "{}", Line::Stop(fault))?;
             Ok(out)

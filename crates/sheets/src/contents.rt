@@ -63,8 +63,6 @@ pub(crate) fn first_field<'a>(
         return Err(Refusal::Cut);
     };
     let length = usize::from(u16::from_be_bytes([*high, *low]));
-    let Some((contents, after)) = rest.split_at_checked(length) else {
-        return Err(Refusal::Cut);
-    };
+    let (contents, after) = rest.split_at_checked(length).ok_or(Refusal::Cut)?;
     Ok((checked(awaited, *number, contents)?, after))
 }

@@ -29,7 +29,7 @@ impl<'a> Model for Reader<'a> {
 
     ghost Value = { Unread };
 
-    ghost view = { λ r. record { total = r.total; awaited = r.awaited; bytes = r.rest.now } };
+    ghost view = { λ r. record { total = r.total; awaited = r.awaited; rest = r.rest } };
 
     ghost invariant = { λ r. length r.rest.now ≤ r.total };
 }

@@ -1,6 +1,7 @@
 use Rattle.std.proofs.Common.{◌≡◌, true, false, ltb, length, subst, arith, MatchOption}
+use Rattle.std.specs.List.{list_any}
 use Rattle.std.proofs.lemmas.Grind.{common_steps}
-use Rattle.base.specs.Lists.{below, some_is}
+use Rattle.base.specs.Lists.{below}
 use Rattle.floor.specs.Links.{pairs_of}
 use Rattle.drawn_floor.proofs.Marking.{marked_linked}
 use Rattle.drawn_floor.proofs.drawing.Drawing.joined_tiles.Goals as goal
@@ -11,5 +12,5 @@ returns-clause-answer c =
     let links = c.args.self.now.links.now in
     let ps = pairs_of links in
     let told = rw (c.in_ok-marks.ensures.ok_part, c.pairs.ensures) at c.of.ensures in
-    let crowded = subst (λ joined_to. MatchOption c.marked.result (some_is (λ t. ltb 6 (length (joined_to t))) (below n) ≡ true) (λ _. some_is (λ t. ltb 6 (length (joined_to t))) (below n) ≡ false)) (marked_linked n ps c.in_ok-marks.marks.marks told.1) c.marked.ensures.crowded in
+    let crowded = subst (λ joined_to. MatchOption c.marked.result (list_any (λ t. ltb 6 (length (joined_to t))) (below n) ≡ true) (λ _. list_any (λ t. ltb 6 (length (joined_to t))) (below n) ≡ false)) (marked_linked n ps c.in_ok-marks.marks.marks told.1) c.marked.ensures.crowded in
     grind (arith, common_steps)

@@ -1,14 +1,13 @@
 use Rattle.std.proofs.Common.{sym, ap, ◌∙◌}
-use Rattle.floor.specs.Links.{pairs_of}
 use Rattle.drawn_floor.proofs.Marking.{marking_start, marking_met, marking_more}
 use Rattle.drawn_floor.proofs.marks.Marks.of.Goals as goal
 
 pub loop-pair-init : goal.loop-pair-init
-loop-pair-init c = marking_start (pairs_of c.args.pairs.links.now) (pairs_of c.into_iter-pair-iterator.result.links.now) 256 256 (ap (λ p. pairs_of p.links.now) c.into_iter-pair-iterator.ensures.into_iter_gives)
+loop-pair-init c = marking_start c.args.pairs c.into_iter-pair-iterator.result 256 256 (ap (λ p. p) c.into_iter-pair-iterator.ensures.into_iter_gives)
 
 pub returns-then-has : goal.returns-then-has
-returns-then-has c = marking_met c.loop-pair.invariant c.in-Some.pair (pairs_of c.next.new.self.links.now) c.in-Some.ensures.steps (sym c.has.ensures ∙ c.if-has.true)
+returns-then-has c = marking_met c.loop-pair.invariant c.in-Some.pair c.next.new.self c.in-Some.ensures.steps (sym c.has.ensures ∙ c.if-has.true)
 
 pub loop-pair-preserved : goal.loop-pair-preserved
 loop-pair-preserved c =
-    marking_more c.loop-pair.invariant c.in-Some.pair (pairs_of c.next.new.self.links.now) c.in-Some.ensures.steps c.add.new.self.marks (sym c.has.ensures ∙ c.if-has.false) c.add.ensures
+    marking_more c.loop-pair.invariant c.in-Some.pair c.next.new.self c.in-Some.ensures.steps c.add.new.self.marks (sym c.has.ensures ∙ c.if-has.false) c.add.ensures
