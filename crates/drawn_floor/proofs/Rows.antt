@@ -7,7 +7,7 @@ use Rattle.drawn_floor.specs.Searches.{left_out, Passes}
 use Rattle.drawn_floor.specs.Spreading.{Meets}
 use Rattle.drawn_floor.specs.Tables.{at_place}
 use Rattle.drawn_floor.specs.declared.search.Search.{Search}
-use Rattle.drawn_floor.proofs.Spreading.{meets_then, meets_as, meets_none}
+use Rattle.drawn_floor.proofs.Spreading.{meets_then, meets_as}
 
 -- u stands at one of the first k places of t, and is not left out there
 abbrev pub Passed : List (List (Option ℕ)) → Option (ℕ × ℕ) → ℕ → ℕ → ℕ → Type 0

@@ -14,6 +14,7 @@ pub(crate) struct Pairs<'a> {
 
 impl<'a> Model for Pairs<'a> {
     ghost use Rattle.std.specs.Prelude.{ℕ, List};
+    ghost use Rattle.floor.specs.Links.{pairs_of};
 
     ghost Value = { List (ℕ × ℕ) };
 

@@ -13,8 +13,14 @@ pub(crate) type Steps = [Option<Pull>; TILES];
 // Tiles that are equally far from a goal.
 type Layer = ArrayVec<Tile, TILES>;
 
-// A search that spreads from its goal, layer by layer. The table of joined tiles and the pair that is left out are no
-// fields of it: each relation of two searches would have to say that they stay.
+// The ways that a search may go: to the joined tiles of a table, but not from one tile of the pair `cut` to the other.
+#[derive(Clone, Copy)]
+struct Ways<'a> {
+    joined: &'a JoinedTiles,
+    cut: Option<(Tile, Tile)>,
+}
+
+// A search that spreads from its goal, layer by layer.
 #[derive(Drop)]
 struct Search {
     steps: Steps,
@@ -28,9 +34,10 @@ impl JoinedTiles {
     pub(crate) fn search(&self, goal: Tile, cut: Option<(Tile, Tile)>) -> Steps
         ensures { Filled (Passes self.now.tiles cut) goal result }
     {
+        let ways = Ways { joined: self, cut };
         let mut search = Search::begun(goal);
         while !search.layer.is_empty() {
-            search.spread(self, cut);
+            search.spread(ways);
         }
         search.steps
     }
@@ -52,28 +59,28 @@ impl Search {
     }
 
     // Meets the tiles that are joined to those of the layer, which become the next layer.
-    fn spread(&mut self, joined: &JoinedTiles, cut: Option<(Tile, Tile)>)
+    fn spread(&mut self, ways: Ways)
         requires few { self.old.far + (unmet self.old.steps + length self.old.layer.items) ≤ 256 }
         requires some { 0 < length self.old.layer.items }
         ensures far { self.new.far ≡ self.old.far + 1 }
-        ensures spreads { Spreads (Behind (Passes joined.now.tiles cut) self.old.layer.items) self.new.far self.old.steps self.new.steps self.new.layer.items }
+        ensures spreads { Spreads (Behind (Passes ways.entry.joined.now.tiles ways.entry.cut) self.old.layer.items) self.new.far self.old.steps self.new.steps self.new.layer.items }
     {
         let layer = mem::replace(&mut self.layer, ArrayVec::new());
         self.far += 1;
         for tile in layer.as_slice() {
-            self.meet_joined(joined, cut, *tile);
+            self.meet_joined(ways, *tile);
         }
     }
 
     // Meets the tiles that are joined to `tile`, but not by the pair `cut`.
-    fn meet_joined(&mut self, joined: &JoinedTiles, cut: Option<(Tile, Tile)>, tile: Tile)
+    fn meet_joined(&mut self, ways: Ways, tile: Tile)
         requires { HasRoom self.old }
-        ensures { Meets (λ u. Passes joined.now.tiles cut u tile) self.old self.new }
+        ensures { Meets (λ u. Passes ways.entry.joined.now.tiles ways.entry.cut u tile) self.old self.new }
     {
         // With `iter().copied().flatten()` a survey takes half as long again.
-        for place in &joined.tiles[usize::from(tile)] {
+        for place in &ways.joined.tiles[usize::from(tile)] {
             if let Some(next) = place
-                && !is_left_out(cut, tile, *next)
+                && !is_left_out(ways.cut, tile, *next)
             {
                 self.meet(*next);
             }

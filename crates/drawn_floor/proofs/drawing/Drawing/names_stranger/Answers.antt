@@ -1,4 +1,4 @@
-use Rattle.std.proofs.Common.{◌||◌, leb, ◌∙◌, rules}
+use Rattle.std.proofs.Common.{◌||◌, leb, rules}
 use Rattle.std.proofs.lemmas.Iterator.Consumers.{YieldsList-from_first}
 use Rattle.std.proofs.lemmas.Iterator.Search.{any_from_yields_List}
 use borrow.Author.Tests.{tests}

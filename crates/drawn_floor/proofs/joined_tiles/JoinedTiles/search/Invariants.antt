@@ -4,9 +4,9 @@ use Rattle.drawn_floor.specs.Searches.{Passes}
 use Rattle.drawn_floor.specs.Spreading.{Layered, unmet}
 use Rattle.drawn_floor.proofs.joined_tiles.JoinedTiles.search.Given as goal
 
-abbrev pub invariant-loop-cut : goal.invariant-loop-cut
-invariant-loop-cut l = Layered (Passes l.self.tiles l.cut) l.goal l.search
+abbrev pub invariant-loop-ways : goal.invariant-loop-ways
+invariant-loop-ways l = Layered (Passes l.self.tiles l.fn.cut) l.goal l.search
 
 -- Each tile of a layer was met, and leaves the layer.
-abbrev pub decreases-loop-cut : goal.decreases-loop-cut
-decreases-loop-cut l = unmet l.search.steps + length l.search.layer.items
+abbrev pub decreases-loop-ways : goal.decreases-loop-ways
+decreases-loop-ways l = unmet l.search.steps + length l.search.layer.items

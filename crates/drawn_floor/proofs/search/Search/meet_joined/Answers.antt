@@ -11,8 +11,8 @@ use Rattle.drawn_floor.proofs.search.Search.meet_joined.Goals.{in-Some+then-not-
 
 pub loop-place-preserved : goal.loop-place-preserved
 loop-place-preserved c =
-    let tiles = c.args.joined.now.tiles in
-    let cut = c.args.cut in
+    let tiles = c.args.ways.joined.now.tiles in
+    let cut = c.args.ways.cut in
     let tile = c.args.tile in
     let k = c.loop-place.place-index in
     let start = c.args.self.now in
@@ -34,6 +34,6 @@ loop-place-preserved c =
 
 pub returns : goal.returns
 returns c =
-    let joined = c.args.joined.now in
+    let joined = c.args.ways.joined.now in
     let all : length (get_or joined.tiles c.args.tile []) ≤ c.loop-place.place-index = omega (arith, joined.wide c.args.tile c.ranges.tile.fits, c.loop-place-test.false) in
-    passed_last joined.tiles c.args.cut c.args.tile c.loop-place.place-index all c.args.self.now c.loop-place.self c.loop-place.invariant
+    passed_last joined.tiles c.args.ways.cut c.args.tile c.loop-place.place-index all c.args.self.now c.loop-place.self c.loop-place.invariant

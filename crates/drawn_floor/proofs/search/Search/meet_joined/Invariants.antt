@@ -4,4 +4,4 @@ use Rattle.drawn_floor.proofs.Rows.{Passed}
 use Rattle.drawn_floor.proofs.search.Search.meet_joined.Given as goal
 
 abbrev pub invariant-loop-place : goal.invariant-loop-place
-invariant-loop-place l = Meets (Passed l.joined.tiles l.cut l.tile l.place-index) l.initial.self l.self
+invariant-loop-place l = Meets (Passed l.ways.joined.now.tiles l.ways.cut l.tile l.place-index) l.initial.self l.self

@@ -5,4 +5,4 @@ use Rattle.drawn_floor.proofs.Rows.{BehindFirst}
 use Rattle.drawn_floor.proofs.search.Search.spread.Given as goal
 
 abbrev pub invariant-loop-tile : goal.invariant-loop-tile
-invariant-loop-tile l = Meets (BehindFirst (Passes l.joined.tiles l.cut) l.tile-items l.tile-index) l.initial.self l.self
+invariant-loop-tile l = Meets (BehindFirst (Passes l.ways.joined.now.tiles l.ways.cut) l.tile-items l.tile-index) l.initial.self l.self
