@@ -32,7 +32,7 @@ impl JoinedTiles {
         ensures { Decides result ((g t : ℕ) → g < self.now.size → t < self.now.size → IsSteps self.now.tiles t g (slice_index numbers.now (g * self.now.size + t))) }
     {
         (0..self.size)
-            .zip(numbers.chunks_exact(self.size as usize))
+            .zip(numbers.chunks_exact(usize::from(self.size)))
             .all(|(goal, row)| self.row_agrees(goal, row))
     }
 }

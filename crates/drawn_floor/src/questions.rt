@@ -30,8 +30,8 @@ impl<'a> Floor for DrawnFloor<'a> {
         if tile >= self.joined.size {
             return None;
         }
-        let row = self.joined.tiles[tile as usize];
-        row.get(k as usize).copied().flatten()
+        let row = self.joined.tiles[usize::from(tile)];
+        row.get(usize::from(k)).copied().flatten()
     }
 
     fn pull(&self, tile: Tile, goal: Tile) -> Option<Pull> {

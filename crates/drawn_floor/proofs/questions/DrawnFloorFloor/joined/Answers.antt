@@ -13,7 +13,7 @@ returns-then-tile-self c =
     sym (ap (λ us. slice_get us c.args.k) (joined_none (drawn_model f.joined.size f.links.now) (standing_laws f.joined.size f.links.now f.pulls.now f.stands) c.args.tile c.if-tile-self.true))
 
 pub slice_bounds-get-end : goal.slice_bounds-get-end
-slice_bounds-get-end c = sym (c.args.self.now.joined.wide c.args.tile c.ranges.tile.fits)
+slice_bounds-get-end c = sym (c.args.self.now.joined.wide c.from.result (omega (arith, c.from.ensures, c.ranges.tile.fits)))
 
 pub returns : goal.returns
 returns c =
