@@ -17,6 +17,10 @@ use Rattle.drawn_floor.specs.Searches.{Passes}
 use Rattle.drawn_floor.specs.Tables.{Tabled}
 use Rattle.drawn_floor.proofs.Finding.{to_linked, from_linked}
 
+-- a product of numbers that are turned into others of the same value
+pub product : {a b g n : ℕ} → a ≡ g → b ≡ n → a * b ≡ g * n
+product {b = b} {g = g} p q = ap (λ x. x * b) p ∙ ap (λ y. g * y) q
+
 -- the row of the goal g lies within the table
 pub row_end : (n g m : ℕ) → g < n → n * n ≤ m → g * n + n ≤ m
 row_end n g m a b = omega (arith, mul-le (g + 1) n n n (omega arith) (omega arith), add-mul g 1 n)

@@ -51,7 +51,8 @@ impl<'a> DrawnFloor<'a> {
         ensures made { IfSome result (λ f. (f.joined.size ≡ drawing.entry.size) × (f.links.now ≡ drawing.entry.links.now) × (f.pulls.now ≡ pulls.now)) }
     {
         let joined = drawing.floor().ok()?;
-        let places = drawing.size as usize * drawing.size as usize;
+        let width = usize::from(drawing.size);
+        let places = width * width;
         if pulls.len() < places || !joined.agrees(pulls) {
             return None;
         }
@@ -78,7 +79,7 @@ impl<'a> DrawnFloor<'a> {
     }
 
     // Becomes the floor of these tiles, links and pulls, if they stand as a granted survey leaves them. Else the answer
-    // is no, and the floor stays as it was. The answer is a `bool`: numbers that do not stand are no error.
+    // is no, and the floor stays as it was. The signature stays: a `bool`, and a size and links apart.
     pub fn adopt(&mut self, size: Tile, links: &'a [u8], pulls: &'a [Pull]) -> bool
         ensures answer { result ≡ stands_surveyed size links.now pulls.now }
         ensures became { result ≡ true → (self.new.joined.size ≡ size) × (self.new.links.now ≡ links.now) × (self.new.pulls.now ≡ pulls.now) }

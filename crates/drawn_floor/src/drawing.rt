@@ -1,4 +1,4 @@
-ghost use Rattle.std.specs.Prelude.{◌≡◌, ◌≤◌, ◌||◌, IfOk, ◌==◌, nat_le};
+ghost use Rattle.std.specs.Prelude.{◌≡◌, ◌||◌, IfOk, ◌==◌, nat_le};
 ghost use Rattle.std.specs.Result.{result_err};
 ghost use Rattle.base.specs.Refusals.{first_refusal};
 ghost use Rattle.floor.specs.Links.{pairs_of, linked_to};
@@ -11,8 +11,7 @@ use crate::marks::Marks;
 use base::Refusal;
 use floor::Tile;
 
-// A drawing: tiles from 0 to `size` - 1, and links, of which every two bytes name two joined tiles. The public calls take
-// the two apart, as their signatures stand.
+// A drawing: tiles from 0 to `size` - 1, and links, of which every two bytes name two joined tiles.
 #[derive(Clone, Copy)]
 pub(crate) struct Drawing<'a> {
     pub(crate) size: Tile,

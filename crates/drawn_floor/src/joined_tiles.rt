@@ -12,8 +12,8 @@ pub(crate) const TILES: usize = 256;
 // The tiles that are joined to one tile, ascending; the places that are left hold none.
 pub(crate) type Row = [Option<Tile>; MOST];
 
-// The tiles that are joined to each tile of a floor of `size` tiles. These tables are arrays, as those of a search and of
-// marks are: a survey cannot fail for want of memory.
+// The tiles that are joined to each tile of a floor of `size` tiles. An array, since a survey cannot fail for want of
+// memory.
 #[derive(Clone, Copy)]
 pub struct JoinedTiles {
     pub(crate) size: Tile,

@@ -12,10 +12,11 @@ use arrayvec::ArrayVec;
 use floor::Tile;
 use std::array;
 
-// Which tiles are joined: a mark for each two tiles, either way round.
+// Which tiles are joined: a mark for each two tiles, either way round. An array, since a survey cannot fail for want of
+// memory.
 #[derive(Drop)]
 pub(crate) struct Marks {
-    marks: [[bool; 256]; 256],
+    marks: [[bool; TILES]; TILES],
 }
 
 impl Marks {
@@ -24,7 +25,7 @@ impl Marks {
         ensures { MatchOption result (joins_again pairs.entry ≡ true) (λ m. (joins_again pairs.entry ≡ false) × Marked pairs.entry m.marks) }
     {
         let mut marks = Marks {
-            marks: [[false; 256]; 256],
+            marks: [[false; TILES]; TILES],
         };
         for pair in pairs {
             if marks.has(pair) {
@@ -82,7 +83,8 @@ impl JoinedTiles {
         ensures crowded { MatchOption result (list_any (λ t. nat_lt 6 (length (marked_to size marks.now.marks t))) (below size) ≡ true) (λ _. list_any (λ t. nat_lt 6 (length (marked_to size marks.now.marks t))) (below size) ≡ false) }
         ensures made { IfSome result (λ j. (j.size ≡ size) × Tabled size (marked_to size marks.now.marks) j.tiles) }
     {
-        // Not by `zip` with `&mut tiles`: of an array that such a loop wrote, a proof knows the length and no row.
+        // Not by `zip` with `&mut tiles`: of an array that such a loop wrote, a proof knows the length and no row. By
+        // `iter_mut().enumerate()` each index would be cast to a tile, which is no plainer.
         let mut tiles = [[None; MOST]; TILES];
         for tile in 0..size {
             tiles[usize::from(tile)] = marks.row(size, tile)?;

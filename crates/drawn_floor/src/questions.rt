@@ -39,6 +39,7 @@ impl<'a> Floor for DrawnFloor<'a> {
         if tile >= n || goal >= n {
             return None;
         }
-        Some(self.pulls[goal as usize * n as usize + tile as usize])
+        // One list, and a place computed in it: callers hand the numbers over so.
+        Some(self.pulls[usize::from(goal) * usize::from(n) + usize::from(tile)])
     }
 }

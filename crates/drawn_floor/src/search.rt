@@ -7,7 +7,8 @@ use arrayvec::ArrayVec;
 use floor::{Pull, Tile};
 use std::mem;
 
-// How many steps each tile is from the goal of a search; none where the search has not met it.
+// How many steps each tile is from the goal of a search; none where the search has not met it. An array, since a survey
+// cannot fail for want of memory.
 pub(crate) type Steps = [Option<Pull>; TILES];
 
 // Tiles that are equally far from a goal.
@@ -77,7 +78,7 @@ impl Search {
         requires { HasRoom self.old }
         ensures { Meets (λ u. Passes ways.entry.joined.now.tiles ways.entry.cut u tile) self.old self.new }
     {
-        // With `iter().copied().flatten()` a survey takes half as long again.
+        // `iter().copied().flatten()` is no shorter here, and with it a survey takes half as long again.
         for place in &ways.joined.tiles[usize::from(tile)] {
             if let Some(next) = place
                 && !is_left_out(ways.cut, tile, *next)

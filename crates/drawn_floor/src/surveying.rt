@@ -16,6 +16,7 @@ impl JoinedTiles {
         ensures { (t d : ℕ) → t < self.now.size → IsSteps self.now.tiles t goal d → slice_index row.new t ≡ d }
     {
         let found = self.search(goal, None);
+        // Not by `zip` with `found`: of a row that such a loop wrote, a proof knows the length and no number.
         for (tile, place) in row.iter_mut().enumerate() {
             if let Some(steps) = found[tile] {
                 *place = steps;
@@ -30,16 +31,17 @@ impl JoinedTiles {
         ensures beyond { drop (self.now.size * self.now.size) distances.new ≡ drop (self.now.size * self.now.size) distances.old }
     {
         // Not by `chunks_exact_mut`: of a list that such a loop wrote, a proof knows the length and no number.
-        let width = self.size as usize;
+        let width = usize::from(self.size);
         for goal in 0..self.size {
-            let start = goal as usize * width;
+            let start = usize::from(goal) * width;
             self.measure_to(goal, &mut distances[start..start + width]);
         }
     }
 }
 
 // Surveys a drawing of `size` tiles, of which every two bytes of `links` join two. Granted, it writes to place g * size
-// + t of `distances` the steps of a shortest walk from tile t to tile g. Refused, it writes nothing.
+// + t of `distances` the steps of a shortest walk from tile t to tile g. Refused, it writes nothing. The size and the
+// links come apart, as callers have them and as this signature has always stood.
 pub fn survey(size: Tile, links: &[u8], distances: &mut [Pull]) -> Result<(), Refusal>
     ensures answer { result_err result ≡ survey_refusal size links.now (length distances.old) }
     ensures after { distances.new ≡ after_survey size links.now distances.old }
@@ -47,7 +49,8 @@ pub fn survey(size: Tile, links: &[u8], distances: &mut [Pull]) -> Result<(), Re
     ensures stands { is_ok result ≡ true → stands_surveyed size links.now distances.new ≡ true }
 {
     let joined = Drawing { size, links }.floor()?;
-    if distances.len() < size as usize * size as usize {
+    let width = usize::from(size);
+    if distances.len() < width * width {
         return Err(Refusal::ShortList);
     }
     joined.measure(distances);

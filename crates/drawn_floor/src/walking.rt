@@ -1,5 +1,4 @@
-ghost use Rattle.std.specs.Prelude.{◌≡◌, ℕ, ◌<◌, false, length, get_or, Some, None, Decides, slice_index_or};
-ghost use Rattle.floor.specs.Survey.{names_stranger};
+ghost use Rattle.std.specs.Prelude.{ℕ, ◌<◌, length, get_or, Some, None, Decides, slice_index_or};
 ghost use Rattle.floor.specs.Walks.{Walk};
 ghost use Rattle.drawn_floor.specs.Searches.{Passes};
 

@@ -13,7 +13,7 @@ pub type Pull = u16;
 
 // A floor says by `tiles`, `joins`, `pulls` and `farthest` what it means, and `laws` shows that this is a floor: 3 to
 // 255 tiles, joined both ways and at most six to a tile, each joined pair in a ring, and pulls that lead to the goal.
-// The four stay members of their own: each impl says its meaning under these names.
+// A rule of the project: these stand as members of their own, and not as one of a record type.
 pub trait Floor {
     ghost tiles: { Self → ℕ };
 

@@ -1,5 +1,5 @@
 // Drawn floors: what they adopt, what they stay, and what they answer.
-use crate::checks::{check, check_eq, check_joined, check_pulls};
+use crate::checks::{check, check_answers, check_eq};
 use crate::rings::ring_links;
 use base::Refusal;
 use drawn_floor::{DrawnFloor, survey};
@@ -36,8 +36,8 @@ fn is_ring_of_three(floor: &DrawnFloor) -> Result<(), Fail> {
 fn is_kite(floor: &DrawnFloor) -> Result<(), Fail> {
     check_eq(floor.size(), 4)?;
     check_eq(floor.reach(), 2)?;
-    check_joined(
-        floor,
+    check_answers(
+        |tile, k| floor.joined(tile, k),
         &[
             (0, 0, Some(1)),
             (0, 1, Some(2)),
@@ -53,8 +53,8 @@ fn is_kite(floor: &DrawnFloor) -> Result<(), Fail> {
             (4, 0, None),
         ],
     )?;
-    check_pulls(
-        floor,
+    check_answers(
+        |tile, goal| floor.pull(tile, goal),
         &[
             (0, 2, Some(1)),
             (1, 3, Some(2)),
@@ -124,8 +124,8 @@ fn becomes_longest_ring(links: &[u8], pulls: &[Pull]) -> Result<(), Fail> {
         has_two_joined(&floor, tile, first, second)?;
     }
     check_eq(floor.joined(255, 0), None)?;
-    check_pulls(
-        &floor,
+    check_answers(
+        |tile, goal| floor.pull(tile, goal),
         &[
             (0, 254, Some(1)),
             (0, 127, Some(127)),

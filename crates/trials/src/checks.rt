@@ -1,7 +1,6 @@
 // Comparisons in tests, which say what they found.
 ghost use Rattle.std.specs.Prelude.{◌↔◌, IsOk, IsTrue};
 
-use floor::{Floor, Pull, Tile};
 use std::fmt::Debug;
 use std::test::Fail;
 
@@ -25,24 +24,15 @@ pub(crate) fn check_eq<T: Debug + PartialEq + Drop>(found: T, wanted: T) -> Resu
     }
 }
 
-// Each row has a tile, a place and what is joined to the tile there.
-pub(crate) fn check_joined(
-    floor: &impl Floor,
-    rows: &[(Tile, u8, Option<Tile>)],
-) -> Result<(), Fail> {
-    for (tile, k, joined) in rows {
-        check_eq(floor.joined(*tile, *k), *joined)?;
-    }
-    Ok(())
-}
-
-// Each row has a tile, a goal and the pull between them.
-pub(crate) fn check_pulls(
-    floor: &impl Floor,
-    rows: &[(Tile, Tile, Option<Pull>)],
-) -> Result<(), Fail> {
-    for (tile, goal, pull) in rows {
-        check_eq(floor.pull(*tile, *goal), *pull)?;
+// Each row has the two numbers that a question is asked with, and its answer.
+pub(crate) fn check_answers<T: Copy + Debug + PartialEq, Q: Fn(u8, u8) -> T>(
+    question: Q,
+    rows: &[(u8, u8, T)],
+) -> Result<(), Fail>
+    requires { Q.IsAlwaysCallable question }
+{
+    for (first, second, answer) in rows {
+        check_eq(question(*first, *second), *answer)?;
     }
     Ok(())
 }

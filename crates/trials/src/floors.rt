@@ -1,5 +1,5 @@
 // Open floors: bounds, reach, joined tiles and pulls.
-use crate::checks::{check, check_eq, check_joined, check_pulls};
+use crate::checks::{check, check_answers, check_eq};
 use base::Refusal;
 use floor::Floor;
 use open_floor::OpenFloor;
@@ -24,8 +24,8 @@ fn three_by_two() -> Result<(), Fail> {
     let floor = OpenFloor::new(3, 2)?;
     check_eq(floor.size(), 6)?;
     check_eq(floor.reach(), 3)?;
-    check_joined(
-        &floor,
+    check_answers(
+        |tile, k| floor.joined(tile, k),
         &[
             (0, 0, Some(1)),
             (0, 1, Some(3)),
@@ -37,8 +37,8 @@ fn three_by_two() -> Result<(), Fail> {
             (6, 0, None),
         ],
     )?;
-    check_pulls(
-        &floor,
+    check_answers(
+        |tile, goal| floor.pull(tile, goal),
         &[
             (0, 5, Some(3)),
             (5, 0, Some(3)),

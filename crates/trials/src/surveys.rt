@@ -9,13 +9,21 @@ use std::test::Fail;
 // Tile 0 joined to the tiles 1 to 7.
 const STAR: [u8; 14] = [0, 1, 0, 2, 0, 3, 0, 4, 0, 5, 0, 6, 0, 7];
 
-// A survey that is handed `places` sevens, 64 at most, is refused so and leaves each of them. The list
-// is an array, since a `Vec` would ask each test for the runtime.
+// A survey that is handed `places` sevens, 64 at most, is refused so and leaves each of them. The list is an array, since
+// a `Vec` would ask each test for the runtime.
 fn refused(places: usize, size: Tile, links: &[u8], refusal: Refusal) -> Result<(), Fail> {
     let mut numbers = [7; 64];
     check(places <= 64)?;
     check_eq(survey(size, links, &mut numbers[..places]), Err(refusal))?;
     check_eq(numbers, [7; 64])
+}
+
+// So is a survey of each row, where the list has room.
+fn all_refused(rows: &[(Tile, &[u8], Refusal)]) -> Result<(), Fail> {
+    for (size, links, refusal) in rows {
+        refused(64, *size, links, *refusal)?;
+    }
+    Ok(())
 }
 
 // A survey that is handed 64 sevens is granted, writes these rows one after the other, and leaves the other places.
@@ -25,14 +33,6 @@ fn writes<const N: usize>(size: Tile, links: &[u8], rows: &[[Pull; N]]) -> Resul
     let wanted = rows.as_flattened().iter().chain(iter::repeat(&7));
     for (number, wanted) in numbers.iter().zip(wanted) {
         check_eq(number, wanted)?;
-    }
-    Ok(())
-}
-
-// The same of each row, where the list has room.
-fn all_refused(rows: &[(Tile, &[u8], Refusal)]) -> Result<(), Fail> {
-    for (size, links, refusal) in rows {
-        refused(64, *size, links, *refusal)?;
     }
     Ok(())
 }

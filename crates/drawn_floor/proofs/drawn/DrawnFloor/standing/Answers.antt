@@ -1,8 +1,10 @@
-use Rattle.std.proofs.Common.{◌≡◌, is_some, sym, ap, ◌∙◌}
+use Rattle.std.proofs.Common.{◌≡◌, ◌*◌, ◌≤◌, length, take, is_some, sym, ap, ◌∙◌, arith}
 use Rattle.std.proofs.lemmas.Bool.Decides.{not_from_Decides}
+use Rattle.base.specs.Lists.{greatest}
 use Rattle.floor.specs.Links.{pairs_of, linked_to}
 use Rattle.drawn_floor.specs.Tables.{Tabled}
 use Rattle.drawn_floor.proofs.Adopting.{refused_of, granted_of, no_floor, no_room, not_agreed, stands_made, placed_made, reach_made}
+use Rattle.drawn_floor.proofs.Measuring.{product}
 use Rattle.drawn_floor.proofs.drawn.DrawnFloor.standing.Goals as goal
 use Rattle.drawn_floor.proofs.drawn.DrawnFloor.standing.Goals.{then-pulls-places-via-then-pulls-places, then-pulls-places-via-else-pulls-places+then-not-agrees}
 
@@ -19,7 +21,7 @@ returns-then-pulls-places-clause-answer c =
     let joined = c.in_ok-joined.joined in
     let told = granted_of c.floor.result joined (λ j. (j.size ≡ n) × Tabled n (linked_to n (pairs_of links)) j.tiles) (sym c.ok.ensures.value ∙ c.in_ok-joined.was) c.floor.ensures.made in
     elim c.then-pulls-places.branch [
-      | then-pulls-places-via-then-pulls-places w ↦ no_room n links pulls w.if-pulls-places.true
+      | then-pulls-places-via-then-pulls-places w ↦ no_room n links pulls (omega (arith, w.if-pulls-places.true, product c.from-width.ensures c.from-width.ensures))
       | then-pulls-places-via-else-pulls-places+then-not-agrees w ↦
           not_agreed n joined.size links pulls joined.tiles (told.0 ∙ c.floor.ensures.answer) told.1 (not_from_Decides w.agrees.result w.agrees.ensures w.if-not-agrees.true)
     ]
@@ -32,10 +34,11 @@ invariant_of-result c =
     let joined = c.in_ok-joined.joined in
     let told = granted_of c.floor.result joined (λ j. (j.size ≡ n) × Tabled n (linked_to n (pairs_of links)) j.tiles) (sym c.ok.ensures.value ∙ c.in_ok-joined.was) c.floor.ensures.made in
     let is-floor = told.0 ∙ c.floor.ensures.answer in
-    let room = c.if-pulls-places.false in
+    let places = product c.from-width.ensures c.from-width.ensures in
+    let room : n * n ≤ length pulls = omega (arith, c.if-pulls-places.false, places) in
     let found = c.agrees.ensures.0 c.if-not-agrees.false in
     record {
       stands = stands_made n joined.size links pulls joined.tiles is-floor told.1 room found;
       placed = placed_made n joined.size links pulls joined.tiles is-floor told.1;
-      far = reach_made n joined.size links pulls joined.tiles is-floor told.1 room found c.greatest_of.ensures;
+      far = reach_made n joined.size links pulls joined.tiles is-floor told.1 room found (c.greatest_of.ensures ∙ ap (λ k. greatest (take k pulls)) places);
     }

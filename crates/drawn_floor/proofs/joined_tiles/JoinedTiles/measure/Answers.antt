@@ -5,7 +5,7 @@ use Rattle.std.proofs.lemmas.Slice.{drop-put_mid}
 use Rattle.std.proofs.lemmas.Bool.{cases_lt}
 use Rattle.floor.specs.Walks.{Shortest}
 use Rattle.drawn_floor.specs.Searches.{Passes}
-use Rattle.drawn_floor.proofs.Measuring.{row_end, row_before}
+use Rattle.drawn_floor.proofs.Measuring.{product, row_end, row_before}
 use Rattle.drawn_floor.proofs.joined_tiles.JoinedTiles.measure.Goals as goal
 
 pub loop-goal-init : goal.loop-goal-init
@@ -14,6 +14,7 @@ loop-goal-init c = (λ g t d l k short. absurd (omega arith), refl)
 pub slice_bounds-measure_to-end : goal.slice_bounds-measure_to-end
 slice_bounds-measure_to-end c =
     let n = c.args.self.now.size in
+    let start : c.from.result * c.from-width.result ≡ c.loop-goal.goal * n = product c.from.ensures c.from-width.ensures in
     let fits : c.loop-goal.goal * n + n ≤ length c.loop-goal.distances = row_end n c.loop-goal.goal (length c.loop-goal.distances) c.loop-goal-test.true (omega arith) in
     search rules
 
@@ -22,13 +23,16 @@ loop-goal-preserved c =
     let n = c.args.self.now.size in
     let Goes = Passes c.args.self.now.tiles None in
     let goal = c.loop-goal.goal in
-    let base = goal * n in
+    let wide = c.from-width.result in
+    let base = c.from.result * wide in
+    let start : base ≡ goal * n = product c.from.ensures c.from-width.ensures in
+    let same_width : wide ≡ n = c.from-width.ensures in
     let old = c.loop-goal.distances in
     let row = c.measure_to.new.row in
-    let new = put_mid base (base + n - base) old row in
-    let fits : base + n ≤ length old = row_end n goal (length old) c.loop-goal-test.true (omega arith) in
+    let new = put_mid base (base + wide - base) old row in
+    let fits : base + wide ≤ length old = omega (arith, start, same_width, row_end n goal (length old) c.loop-goal-test.true (omega arith)) in
     let long : length row ≡ n = search rules in
-    let width : base + n - base ≡ n = omega arith in
+    let width : base + wide - base ≡ n = omega arith in
     let all = row_end n goal (n * n) c.loop-goal-test.true (omega arith) in (
       λ g t d a b short. elim (cases_lt g goal) [
         | inl less ↦
@@ -40,7 +44,7 @@ loop-goal-preserved c =
             let same : get_or new (goal * n + t) 0 ≡ get_or row t 0 = search (rules, places) in
             ap (λ z. get_or new (z * n + t) 0) is ∙ same ∙ c.measure_to.ensures t d b (subst (λ z. Shortest Goes t z d) is short)
       ],
-      drop-put_mid base (base + n - base) old row (n * n) (omega arith) (omega arith) (omega arith) ∙ c.loop-goal.invariant.1,
+      drop-put_mid base (base + wide - base) old row (n * n) (omega arith) (omega arith) (omega arith) ∙ c.loop-goal.invariant.1,
     )
 
 pub returns : goal.returns
