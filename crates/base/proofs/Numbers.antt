@@ -1,8 +1,8 @@
 -- Lists of numbers: what is in them, the greatest of them, and how many numbers fit below a bound.
-use Rattle.std.proofs.Common.{◌≡◌, ℕ, zero, suc, ◌+◌, ◌-◌, ◌<◌, ◌≤◌, min, Bool, true, false, cond, ◌&&◌, eqb, ltb, List, [], ◌∷◌, ◌++◌, length, get_or, Decides, sym, refl, ap, ◌∙◌, ⊎_elim, add-one, arith}
+use Rattle.std.proofs.Common.{◌≡◌, ℕ, zero, suc, ◌+◌, ◌-◌, ◌<◌, ◌≤◌, min, Bool, true, false, cond, ◌&&◌, eqb, ltb, List, [], ◌∷◌, length, get_or, Decides, sym, refl, ap, ◌∙◌, ⊎_elim, arith}
 use Rattle.std.specs.List.{range_with_len, list_any}
-use Rattle.std.proofs.lemmas.List.FromFn.{length-range_with_len, get_or-range_with_len, map-range_with_len_more}
-use Rattle.std.proofs.lemmas.List.{append-nil, get_or_default, length_push, map-id}
+use Rattle.std.proofs.lemmas.List.FromFn.{length-range_with_len, get_or-range_with_len}
+use Rattle.std.proofs.lemmas.List.{get_or_default}
 use Rattle.std.proofs.lemmas.Bool.{both_ways, cases_lt, cases_Bool, eqb-true, eq-eqb, lt-ltb, le-ltb}
 use Rattle.std.proofs.lemmas.Bool.Decides.{Decides-at, Decides-like, Decides-and, Decides-ltb, Decides-by_or, same_from_decides, nat_tests}
 use Rattle.base.specs.Lists.{below, those, is_among, greatest}
@@ -28,29 +28,6 @@ length-below n = length-range_with_len 0 n
 pub get_or-below : (n i d : ℕ) → i < n → get_or (below n) i d ≡ i
 unfolding below
 get_or-below n i d l = get_or-range_with_len 0 n i d l ∙ omega arith
-
--- one number more below the bound
-pub below_more : (n : ℕ) → below (n + 1) ≡ below n ++ n ∷ []
-unfolding below
-below_more n =
-    sym (map-id (range_with_len 0 (n + 1))) ∙ map-range_with_len_more (λ k. k) 0 n n (omega arith) ∙ ap (λ ks. ks ++ n ∷ []) (map-id (range_with_len 0 n))
-
-those-append : (p : ℕ → Bool) (xs ys : List ℕ) → those p (xs ++ ys) ≡ those p xs ++ those p ys
-unfolding those
-those-append p [] ys = refl
-those-append p (x ∷ xs) ys = ⊎_elim
-    (λ e. those_take p x (xs ++ ys) e ∙ ap (λ zs. x ∷ zs) (those-append p xs ys) ∙ ap (λ zs. zs ++ those p ys) (sym (those_take p x xs e)))
-    (λ e. those_skip p x (xs ++ ys) e ∙ those-append p xs ys ∙ ap (λ zs. zs ++ those p ys) (sym (those_skip p x xs e)))
-    (cases_Bool (p x))
-
-module _ (p : ℕ → Bool) (n : ℕ) where
-  pub those_more_yes : p n ≡ true → those p (below (n + 1)) ≡ those p (below n) ++ n ∷ []
-  unfolding those
-  those_more_yes e = ap (those p) (below_more n) ∙ those-append p (below n) (n ∷ []) ∙ ap (λ zs. those p (below n) ++ zs) (those_take p n [] e)
-
-  pub those_more_no : p n ≡ false → those p (below (n + 1)) ≡ those p (below n)
-  unfolding those
-  those_more_no e = ap (those p) (below_more n) ∙ those-append p (below n) (n ∷ []) ∙ ap (λ zs. those p (below n) ++ zs) (those_skip p n [] e) ∙ append-nil (those p (below n))
 
 -- a test decides that it passes
 pub decides_itself : (b : Bool) → Decides b (b ≡ true)

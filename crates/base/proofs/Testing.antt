@@ -1,8 +1,5 @@
 -- Which of several tests refuses first: where all pass, and what tests that follow change.
-use Rattle.std.proofs.Common.{◌≡◌, ℕ, Bool, true, false, ◌⊎◌, List, [], ◌∷◌, ◌++◌, IfSome, IfOk, Some, None, Option, refl, inl, inr, MatchOption}
-use Rattle.std.proofs.lemmas.Option.{IfSome_then}
-use Rattle.std.specs.Option.{ok_or}
-use Rattle.std.specs.Result.{result_err}
+use Rattle.std.proofs.Common.{◌≡◌, ℕ, Bool, true, false, ◌⊎◌, List, [], ◌∷◌, ◌++◌, Some, None, Option, refl, inl, inr}
 use Rattle.std.specs.List.{AllByRecursion as All}
 use Rattle.base.specs.Refusals.{first_refusal, refusal_number}
 use Rattle.base.specs.declared.refusal.Refusal.{Refusal}

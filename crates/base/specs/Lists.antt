@@ -1,5 +1,5 @@
 -- Lists of numbers: those below a bound, those that pass a test, and the greatest of them.
-use Rattle.std.specs.Prelude.{◌≡◌, ℕ, max, Bool, true, false, ◌||◌, ◌⊎◌, List, [], ◌∷◌, ◌≢◌, nat_eq}
+use Rattle.std.specs.Prelude.{◌≡◌, ℕ, max, Bool, true, false, ◌⊎◌, List, [], ◌∷◌, ◌≢◌, nat_eq}
 use Rattle.std.specs.List.{range_with_len, list_any}
 
 -- the numbers below n, ascending

@@ -1,7 +1,5 @@
 -- What a floor that keeps the laws answers: at places that no tile has, and of pulls.
 use Rattle.std.proofs.Common.{◌≡◌, ℕ, ◌≤◌, true, false, ltb, [], length, Some, None, Option, sym, ap, inl, inr, arith}
-use Rattle.std.specs.List.{slice_get}
-use Rattle.std.proofs.lemmas.Option.{slice_get_past}
 use Rattle.std.proofs.lemmas.Bool.{and_from, cases_lt, lt-ltb}
 use Rattle.base.proofs.Ascending.{those-below}
 use Rattle.floor.specs.Floors.{FloorModel, Laws, IsTile, Joined, joined_to, pull_between}
