@@ -1,7 +1,7 @@
-ghost use Rattle.std.specs.Prelude.{◌≡◌, ◌++◌, IfOk, OnOk, string_bytes};
+ghost use Rattle.std.specs.Prelude.{◌≡◌, [], ◌++◌, IfOk, OnOk, MatchResult, string_bytes};
 ghost use Rattle.sheets.specs.Fields.{said};
 ghost use Rattle.sheets.specs.Readers.{left_in};
-ghost use Rattle.runs.specs.Lines.{floor_line, whole_line};
+ghost use Rattle.runs.specs.Lines.{floor_line, stop_line, whole_line};
 ghost use Rattle.runs.specs.Printed.{printed, call_lines, floor_lines, preference_lines, run_lines};
 
 use crate::lines::Line;
@@ -100,12 +100,14 @@ impl Run<'_> {
             return Ok(());
         };
         self.write(Line::Ok)?;
-        self.read_calls()
+        self.read_calls()?;
+        Ok(())
     }
 
-    // Reads the fields for the table.
-    fn read_calls(&mut self) -> Result<(), Stop>
-        ensures { Wrote self.old self.new (call_lines (left_in self.old.reader)) result }
+    // Reads the fields for the table. Nothing is written, so that only a fault can stop it.
+    fn read_calls(&mut self) -> Result<(), Fault>
+        ensures lines { MatchResult result (λ _. call_lines (left_in self.old.reader) ≡ []) (λ fault. call_lines (left_in self.old.reader) ≡ stop_line fault) }
+        ensures unwritten { self.new.out ≡ self.old.out }
     {
         while let Some(_entry) = self.reader.next_field()? {}
         Ok(())

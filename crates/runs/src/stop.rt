@@ -3,6 +3,7 @@ ghost use Rattle.runs.specs.declared.stop.Stop.TheVariants.{Faulty, NoMemory};
 
 use sheets::Fault;
 use std::alloc::AllocError;
+use std::fmt;
 
 // Why the lines of a run break off: a fault, which the last line names, or want of memory.
 #[derive(Clone, Copy, PartialEq, Eq, Debug)]
@@ -11,12 +12,21 @@ pub enum Stop {
     NoMemory(AllocError),
 }
 
-// Both conversions are written by hand, since a clause names the error that `?` makes.
+// The conversions are written by hand, since a clause names the error that `?` makes.
 impl From<Fault> for Stop {
     ghost from_gives = { λ fault stop. stop ≡ Faulty fault };
 
     fn from(fault: Fault) -> Stop {
         Stop::Faulty(fault)
+    }
+}
+
+// A text can fail to be written only for want of memory.
+impl From<fmt::Error> for Stop {
+    ghost from_gives = { λ _ stop. stop ≡ NoMemory (record {}) };
+
+    fn from(_error: fmt::Error) -> Stop {
+        Stop::NoMemory(AllocError)
     }
 }
 

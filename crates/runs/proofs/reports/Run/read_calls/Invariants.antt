@@ -1,4 +1,4 @@
-use Rattle.std.proofs.Common.{◌≡◌, string_bytes}
+use Rattle.std.proofs.Common.{◌≡◌}
 use Rattle.sheets.specs.Readers.{left_in}
 use Rattle.sheets.proofs.ReadingSteps.{entries}
 use Rattle.runs.specs.Printed.{call_lines}
@@ -7,7 +7,7 @@ use Rattle.runs.proofs.reports.Run.read_calls.Given as goal
 -- nothing is written, and what is left prints what was left
 abbrev pub invariant-loop-entry : goal.invariant-loop-entry
 invariant-loop-entry l = record {
-  unwritten : string_bytes l.self.out ≡ string_bytes l.initial.self.out;
+  unwritten : l.self.out ≡ l.initial.self.out;
   same : call_lines (left_in l.self.reader) ≡ call_lines (left_in l.initial.self.reader);
 }
 
