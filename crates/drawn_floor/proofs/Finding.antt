@@ -29,6 +29,10 @@ pub some_found : {Goes : ℕ → ℕ → Type 0} {t g d : ℕ} (o : Option ℕ) 
 some_found None none is = absurd (some_not_none is refl)
 some_found {Goes} {t} {g} (Some e) near is = let same : e ≡ _ = cc in subst (λ k. Shortest Goes t g k) same near
 
+pub found_cut : {Goes : ℕ → ℕ → Type 0} {t g : ℕ} (o : Option ℕ) → Found Goes t g o → ((k : ℕ) → Walk Goes t g k → ⊥) → o ≡ None
+found_cut None none cut = refl
+found_cut (Some d) near cut = absurd (cut d near.walk)
+
 pub found_none : {Goes : ℕ → ℕ → Type 0} {t g : ℕ} (o : Option ℕ) → Found Goes t g o → o ≡ None → (k : ℕ) → Walk Goes t g k → ⊥
 found_none None none is = none
 found_none (Some d) near is = absurd (some_not_none refl is)

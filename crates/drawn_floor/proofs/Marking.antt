@@ -60,8 +60,12 @@ pub record Marking (all met left : List (ℕ × ℕ)) (marks : List (List Bool))
   pub once : joins_again met ≡ false
   pub here : Marked met marks
 
-pub marking_start : (all left : List (ℕ × ℕ)) (m n : ℕ) → left ≡ all → Marking all [] left (replicate m (replicate n false))
-marking_start all left m n e = record { whole = e; once = refl; here = same_rows m n false }
+pub marking_start : (all left : List (ℕ × ℕ)) (marks : List (List Bool)) → left ≡ all → Marked [] marks → Marking all [] left marks
+marking_start all left marks e none = record { whole = e; once = refl; here = none }
+
+-- nothing is marked yet
+pub unmarked : (m n : ℕ) → Marked [] (replicate m (replicate n false))
+unmarked m n = same_rows m n false
 
 module _ {all met left : List (ℕ × ℕ)} {marks : List (List Bool)} (so_far : Marking all met left marks) where
   module _ (p : ℕ × ℕ) (rest : List (ℕ × ℕ)) (next : left ≡ p ∷ rest) where

@@ -29,6 +29,10 @@ row_end n g m a b = omega (arith, mul-le (g + 1) n n n (omega arith) (omega arit
 pub row_before : (n g h t : ℕ) → h < g → t < n → h * n + t < g * n
 row_before n g h t a b = omega (arith, mul-le (h + 1) n g n (omega arith) (omega arith), add-mul h 1 n)
 
+-- a later row lies after it
+pub row_after : (n g h t : ℕ) → g < h → g * n + n ≤ h * n + t
+row_after n g h t a = omega (arith, mul-le (g + 1) n h n (omega arith) (omega arith), add-mul g 1 n)
+
 -- a place of the row, as a part of the table
 pub row_part : (n g t : ℕ) (numbers : List ℕ) → t < n → get_or (take n (drop (g * n) numbers)) t 0 ≡ get_or numbers (g * n + t) 0
 row_part n g t numbers l = get_or-take n (drop (g * n) numbers) t 0 l ∙ get_or-drop (g * n) numbers t 0

@@ -1,10 +1,10 @@
 -- The places of a tile's row, one after the other, as a search looks at them.
-use Rattle.std.proofs.Common.{◌≡◌, ℕ, ◌+◌, ◌<◌, ◌≤◌, false, List, [], length, get_or, Some, None, Option, sym, ap, ◌∙◌, subst, inl, inr, arith}
+use Rattle.std.proofs.Common.{◌≡◌, ℕ, ◌+◌, ◌-◌, ◌<◌, ◌≤◌, drop, false, List, [], length, get_or, Some, None, Option, sym, ap, ◌∙◌, subst, inl, inr, arith}
 use Rattle.std.proofs.lemmas.Bool.{cases_lt}
-use Rattle.std.proofs.lemmas.List.{get_or_past}
+use Rattle.std.proofs.lemmas.List.{get_or-drop, get_or_past, length-drop}
 use Rattle.base.proofs.Testing.{some_not_none}
 use Rattle.drawn_floor.specs.Searches.{left_out, Passes}
-use Rattle.drawn_floor.specs.Spreading.{Meets}
+use Rattle.drawn_floor.specs.Spreading.{Behind, Meets}
 use Rattle.drawn_floor.specs.Tables.{at_place}
 use Rattle.drawn_floor.specs.declared.search.Search.{Search}
 use Rattle.drawn_floor.proofs.Spreading.{meets_then, meets_as}
@@ -53,20 +53,27 @@ module _ (tiles : List (List (Option ℕ))) (cut : Option (ℕ × ℕ)) (t : ℕ
         one_only : {o : Option ℕ} {a b : ℕ} → o ≡ Some a → o ≡ Some b → a ≡ b
         one_only p q = cc
 
--- u comes to one of the first k tiles of a layer in one step
-abbrev pub BehindFirst : (ℕ → ℕ → Type 0) → List ℕ → ℕ → ℕ → Type 0
-BehindFirst Goes layer k u = (i : ℕ) × (i < k) × Goes u (get_or layer i 0)
+-- u comes to one of the tiles of a list, from place a up to place b, in one step
+abbrev pub BehindSome : (ℕ → ℕ → Type 0) → List ℕ → ℕ → ℕ → ℕ → Type 0
+BehindSome Goes met a b u = (i : ℕ) × (a ≤ i) × (i < b) × Goes u (get_or met i 0)
 
-module _ (Goes : ℕ → ℕ → Type 0) (layer : List ℕ) where
+module _ (Goes : ℕ → ℕ → Type 0) (met : List ℕ) (a : ℕ) where
   -- one tile more was passed
-  pub behind_more : (k : ℕ) → (r s after : Search) → Meets (BehindFirst Goes layer k) r s → Meets (λ u. Goes u (get_or layer k 0)) s after → Meets (BehindFirst Goes layer (k + 1)) r after
-  behind_more k r s after before now =
+  pub behind_more : (b v : ℕ) → a ≤ b → get_or met b 0 ≡ v → (r s after : Search) → Meets (BehindSome Goes met a b) r s → Meets (λ u. Goes u v) s after → Meets (BehindSome Goes met a (b + 1)) r after
+  behind_more b v low is r s after before now =
       meets_as r after (λ u h. elim h [
-        | inl old ↦ (old.0, omega (arith, old.1), old.2)
-        | inr new ↦ (k, omega arith, new)
-      ]) (λ u h. elim (cases_lt h.0 k) [
-        | inl less ↦ inl (h.0, less, h.2)
+        | inl old ↦ (old.0, old.1, omega (arith, old.2), old.3)
+        | inr new ↦ (b, low, omega arith, subst (Goes u) (sym is) new)
+      ]) (λ u h. elim (cases_lt h.0 b) [
+        | inl less ↦ inl (h.0, h.1, less, h.3)
         | inr more ↦
-            let here : h.0 ≡ k = omega (arith, h.1) in
-            inr (subst (λ i. Goes u (get_or layer i 0)) here h.2)
+            let here : h.0 ≡ b = omega (arith, h.2) in
+            inr (subst (Goes u) (ap (λ i. get_or met i 0) here ∙ is) h.3)
       ]) (meets_then r s after before now)
+
+  -- all were passed
+  pub behind_last : (r s : Search) → Meets (BehindSome Goes met a (length met)) r s → Meets (Behind Goes (drop a met)) r s
+  behind_last r s = meets_as r s
+      (λ u h. let same : a + (h.0 - a) ≡ h.0 = omega (arith, h.1) in
+      (h.0 - a, omega (arith, length-drop a met, h.1, h.2), subst (Goes u) (sym (get_or-drop a met (h.0 - a) 0 ∙ ap (λ i. get_or met i 0) same)) h.3))
+      (λ u h. (a + h.0, omega arith, omega (arith, length-drop a met, h.1), subst (Goes u) (get_or-drop a met h.0 0) h.2))

@@ -1,11 +1,11 @@
 -- How what a search meets adds up, tile after tile and layer after layer, and why it has found all walks when it ends.
-use Rattle.std.proofs.Common.{◌≡◌, ℕ, zero, suc, ◌+◌, ◌-◌, ◌<◌, ◌⊎◌, List, [], ◌∷◌, ◌++◌, length, get_or, set, replicate, false, IsSome, is_some, Some, None, Option, sym, refl, ap, ◌∙◌, subst, inl, inr, arith, length-set}
-use Rattle.std.proofs.lemmas.List.{get_or-set_same, get_or-set_other, get_or_append_left, get_or-append_right, length-append, append_assoc, get_or-replicate, get_or_past, length-replicate}
+use Rattle.std.proofs.Common.{◌≡◌, ℕ, zero, suc, ◌+◌, ◌-◌, ◌<◌, ◌⊎◌, List, [], ◌∷◌, ◌++◌, drop, length, get_or, set, replicate, false, IsSome, is_some, Some, None, Option, sym, refl, ap, ◌∙◌, subst, inl, inr, arith, length-set}
+use Rattle.std.proofs.lemmas.List.{append-nil, drop_at, length-drop, get_or-set_same, get_or-set_other, get_or_append_left, get_or-append_right, length-append, append_assoc, get_or-replicate, get_or_past, length-replicate}
 use Rattle.std.proofs.lemmas.Bool.{cases_eq, cases_lt, false≢true}
 use Rattle.base.proofs.Testing.{some_not_none, cases_option}
 use Rattle.floor.specs.Walks.{Walk, stay, step}
 use Rattle.drawn_floor.specs.Searches.{Found, Filled}
-use Rattle.drawn_floor.specs.Spreading.{unmet, steps_of, Spreads, Meets, Behind, Layered}
+use Rattle.drawn_floor.specs.Spreading.{IsNew, unmet, steps_of, Spreads, Meets, Behind, Layered, layer_of}
 use Rattle.drawn_floor.specs.declared.search.Search.{Search}
 
 met_by : {X : Type 0} {o : Option X} {x : X} → o ≡ Some x → IsSome o
@@ -137,20 +137,27 @@ module _ (Goes : ℕ → ℕ → Type 0) (g : ℕ) where
   only_stay stay = refl
 
   -- The search begins: only its goal was met, and no step leads there.
-  pub layered_begun : (s : Search) → s.far ≡ 0 → Spreads (λ u. u ≡ g) 0 (replicate 256 None) s.steps s.layer.items → Layered Goes g s
-  layered_begun s far spread =
+  pub layered_begun : (start s : Search) → IsNew start → Meets (λ u. u ≡ g) start s → Layered Goes g s
+  layered_begun start s (none_steps, no_items, zero_nearer, zero_far) begun =
+      let far : s.far ≡ 0 = begun.0 ∙ zero_far in
+      let held : s.met.items ≡ begun.2.0 = begun.2.1 ∙ ap (λ xs. xs ++ begun.2.0) no_items in
+      let layer : layer_of s ≡ begun.2.0 = ap (λ n. drop n s.met.items) (begun.1 ∙ zero_nearer) ∙ held in
+      let spread : Spreads (λ u. u ≡ g) start.far (replicate 256 None) s.steps (layer_of s) =
+      subst (λ xs. Spreads (λ u. u ≡ g) start.far (replicate 256 None) s.steps xs) (sym layer) (subst (λ before. Spreads (λ u. u ≡ g) start.far before s.steps begun.2.0) none_steps begun.2.2) in
       let meets : (t e : ℕ) → steps_of s.steps t ≡ Some e → (e ≡ 0) × (t ≡ g) = λ t e h.
       elim (spread.new t e h) [
         | inl old ↦ absurd (some_not_none old (none_met 256 t))
-        | inr new ↦ (new.1, new.2)
+        | inr new ↦ (new.1 ∙ zero_far, new.2)
       ] in
       record {
         long = spread.long ∙ length-replicate {A = Option ℕ} 256 None;
         met = λ t e h. let m = meets t e h in (record { walk = subst (λ k. Walk Goes t g k) (sym m.0) (subst (λ x. Walk Goes x g 0) (sym m.1) stay); least = λ k w. omega (arith, m.0) }, omega (arith, m.0));
         near = λ t k w l. let z : k ≡ 0 = omega (arith, far) in spread.all t (only_stay (subst (λ n. Walk Goes t g n) z w));
         back = λ t h. spread.back t s.far (none_met 256 t) h;
-        listed = λ i l. (spread.listed i l).1 ∙ ap Some (sym far);
+        listed = λ i l. (spread.listed i l).1 ∙ ap Some (sym begun.0);
         few = omega (arith, far, spread.count, unmet_none 256);
+        room = omega (arith, spread.count, unmet_none 256, ap length layer, ap length held);
+        within = omega (arith, begun.1, zero_nearer);
       }
 
   module _ (s : Search) (layered : Layered Goes g s) where
@@ -161,14 +168,14 @@ module _ (Goes : ℕ → ℕ → Type 0) (g : ℕ) where
         layered.near t (suc e) (step goes short.0.walk) (omega (arith, short.1))
 
     -- The search goes on from its layer to the next.
-    pub layered_more : (t : Search) → t.far ≡ s.far + 1 → 0 < length s.layer.items → Spreads (Behind Goes s.layer.items) t.far s.steps t.steps t.layer.items → Layered Goes g t
-    layered_more next far some spread = record {
+    pub layered_more : (t : Search) → t.far ≡ s.far + 1 → t.nearer ≡ length s.met.items → t.met.items ≡ s.met.items ++ layer_of t → Spreads (Behind Goes (layer_of s)) t.far s.steps t.steps (layer_of t) → s.nearer < length s.met.items → Layered Goes g t
+    layered_more next far nearer held spread some = record {
       long = spread.long ∙ layered.long;
       met = λ t e h. elim (spread.new t e h) [
         | inl old ↦ let m = layered.met t e old in (m.0, omega (arith, m.1, far))
         | inr new ↦
             let at = new.2 in
-            let v = get_or s.layer.items at.0 0 in
+            let v = get_or (layer_of s) at.0 0 in
             let way = (layered.met v s.far (layered.listed at.0 at.1)).0.walk in
             let long : suc s.far ≡ e = omega (arith, far, new.1) in (
               record {
@@ -190,7 +197,9 @@ module _ (Goes : ℕ → ℕ → Type 0) (g : ℕ) where
         | inr new ↦ spread.back t next.far new.0 h
       ];
       listed = λ i l. (spread.listed i l).1;
-      few = omega (arith, layered.few, spread.count, far);
+      few = omega (arith, layered.few, spread.count, far, length-drop s.nearer s.met.items, some);
+      room = omega (arith, layered.room, spread.count, ap length held, length-append s.met.items (layer_of next));
+      within = omega (arith, nearer, ap length held, length-append s.met.items (layer_of next));
     }
       where
         old_met : (t : ℕ) → IsSome (steps_of s.steps t) → IsSome (steps_of next.steps t)
@@ -207,7 +216,7 @@ module _ (Goes : ℕ → ℕ → Type 0) (g : ℕ) where
             ]
 
     -- The search ends: each walk to the goal begins at a tile that was met.
-    module _ (empty : length s.layer.items ≡ 0) where
+    module _ (empty : length (layer_of s) ≡ 0) where
       closed : {t k : ℕ} → Walk Goes t g k → IsSome (steps_of s.steps t)
       closed stay = layered.near g 0 stay (omega arith)
       closed (step {b = b} goes rest) =
@@ -221,17 +230,37 @@ module _ (Goes : ℕ → ℕ → Type 0) (g : ℕ) where
       pub filled : Filled Goes g s.steps
       filled t = found t (steps_of s.steps t) refl
 
--- one meeting after another, by a search whose layer held some tiles before
+-- one meeting after another, by a search that has met some tiles before
 pub meets_then : {First Second : ℕ → Type 0} (r s t : Search) → Meets First r s → Meets Second s t → Meets (λ u. First u ⊎ Second u) r t
 meets_then {Second = Second} r s t one two = (
   two.0 ∙ one.0,
+  two.1 ∙ one.1,
   (
-    one.1.0 ++ two.1.0,
-    two.1.1 ∙ ap (λ items. items ++ two.1.0) one.1.1 ∙ append_assoc r.layer.items one.1.0 two.1.0,
-    spreads_then one.1.2 (subst (λ d. Spreads Second d s.steps t.steps two.1.0) one.0 two.1.2),
+    one.2.0 ++ two.2.0,
+    two.2.1 ∙ ap (λ items. items ++ two.2.0) one.2.1 ∙ append_assoc r.met.items one.2.0 two.2.0,
+    spreads_then one.2.2 (subst (λ d. Spreads Second d s.steps t.steps two.2.0) one.0 two.2.2),
   ),
 )
 
 -- the same tiles, named otherwise
 pub meets_as : {Next Other : ℕ → Type 0} (s t : Search) → ((u : ℕ) → Next u → Other u) → ((u : ℕ) → Other u → Next u) → Meets Next s t → Meets Other s t
-meets_as s t to from m = (m.0, (m.1.0, m.1.1, spreads_as to from m.1.2))
+meets_as s t to from m = (m.0, m.1, (m.2.0, m.2.1, spreads_as to from m.2.2))
+
+-- none was met
+pub meets_none : {Next : ℕ → Type 0} (s : Search) → ((u : ℕ) → Next u → ⊥) → Meets Next s s
+meets_none {Next} s none = (refl, refl, ([], sym (append-nil s.met.items), spreads_none))
+  where
+    spreads_none : Spreads Next s.far s.steps s.steps []
+    spreads_none = record {
+      long = refl;
+      kept = λ u e h. h;
+      new = λ u e h. inl h;
+      all = λ u next. absurd (none u next);
+      listed = λ i l. absurd (omega arith);
+      back = λ u e was is. absurd (some_not_none is was);
+      count = omega arith;
+    }
+
+-- Where a search begins a new layer, that layer is what it meets.
+pub layer_met : {Next : ℕ → Type 0} (s t : Search) → s.nearer ≡ length s.met.items → (m : Meets Next s t) → layer_of t ≡ m.2.0
+layer_met s t new m = ap (λ n. drop n t.met.items) (m.1 ∙ new) ∙ ap (drop (length s.met.items)) m.2.1 ∙ drop_at s.met.items m.2.0 (length s.met.items) refl

@@ -1,14 +1,13 @@
 -- A row of joined tiles, filled tile by tile, and the table of such rows.
-use Rattle.std.proofs.Common.{◌≡◌, ℕ, zero, suc, ◌+◌, ◌<◌, ◌≤◌, Bool, eqb, List, [], ◌∷◌, length, get_or, replicate, Some, None, Option, sym, refl, ap, ◌∙◌, inl, inr, arith}
+use Rattle.std.proofs.Common.{◌≡◌, ℕ, zero, suc, ◌+◌, ◌<◌, ◌≤◌, Bool, eqb, List, [], length, get_or, replicate, Some, None, Option, sym, refl, ap, ◌∙◌, inl, inr, arith}
 use Rattle.std.specs.Array.{IsFromFnResultFrom, IsFromFnResult}
 use Rattle.std.specs.Fn.{Called}
-use Rattle.std.specs.List.{slice_get, filter, range_with_len}
+use Rattle.std.specs.List.{slice_get}
 use Rattle.std.proofs.lemmas.List.{get_or-replicate, get_or_past, length-replicate}
 use Rattle.std.proofs.lemmas.Option.{slice_get_past, slice_get_within, get_or_from_slice_get}
-use Rattle.std.proofs.lemmas.Bool.{cases_eq, cases_lt, cases_Bool, eq-eqb, cond-true, cond-false}
+use Rattle.std.proofs.lemmas.Bool.{cases_eq, cases_lt, eq-eqb}
 use denote.Param.Members.{Mut}
 use Rattle.base.specs.Lists.{below, those}
-use Rattle.base.proofs.Ascending.{those_take, those_skip}
 use Rattle.base.proofs.Numbers.{some_in, those_among}
 use Rattle.base.proofs.Testing.{some_not_none}
 use Rattle.drawn_floor.specs.Tables.{at_place, Rowed, SixPlaces, Tabled}
@@ -35,19 +34,6 @@ rowed us row long few same = (
     | inr l ↦ get_or_past row k None (omega arith) ∙ sym (slice_get_past us k (omega arith))
   ],
 )
-
--- a filter passes those that pass its test
-filtered : (test : ℕ → Bool) (xs : List ℕ) → filter test xs ≡ those test xs
-unfolding those
-filtered test [] = refl
-filtered test (x ∷ xs) = elim (cases_Bool (test x)) [
-  | inl passes ↦ cond-true (test x) _ _ passes ∙ ap (λ ys. x ∷ ys) (filtered test xs) ∙ sym (those_take test x xs passes)
-  | inr fails ↦ cond-false (test x) _ _ fails ∙ filtered test xs ∙ sym (those_skip test x xs fails)
-]
-
-pub those_filtered : (test : ℕ → Bool) (n : ℕ) → filter test (range_with_len 0 n) ≡ those test (below n)
-unfolding below
-those_filtered test n = filtered test (range_with_len 0 n)
 
 one_value : {X : Type 0} (n i : ℕ) (d : X) → get_or (replicate n d) i d ≡ d
 one_value n i d = elim (cases_lt i n) [ inl l ↦ get_or-replicate n i d d l | inr l ↦ get_or_past (replicate n d) i d (omega (arith, length-replicate n d)) ]

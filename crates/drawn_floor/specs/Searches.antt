@@ -25,3 +25,7 @@ Filled Goes g row = (t : ℕ) → Found Goes t g (slice_index_or row t None)
 -- d is the steps of a shortest walk from t to g over the table
 abbrev pub IsSteps : List (List (Option ℕ)) → ℕ → ℕ → ℕ → Type 0
 IsSteps tiles t g d = Shortest (Passes tiles None) t g d
+
+-- no walk over the table leads from t to g
+abbrev pub IsCutOff : List (List (Option ℕ)) → ℕ → ℕ → Type 0
+IsCutOff tiles t g = (k : ℕ) → Walk (Passes tiles None) t g k → ⊥

@@ -7,6 +7,7 @@ ghost use Rattle.drawn_floor.specs.Searches.{IsSteps};
 use crate::drawing::Drawing;
 use crate::drawn::DrawnFloor;
 use crate::joined_tiles::JoinedTiles;
+use crate::search::Search;
 use floor::{Pull, Tile};
 
 static RING_LINKS: [u8; 6] = [0, 1, 1, 2, 0, 2];
@@ -19,10 +20,11 @@ impl JoinedTiles {
         requires { length numbers.now ≡ self.now.size }
         ensures { Decides result ((t : ℕ) → t < self.now.size → IsSteps self.now.tiles t goal (slice_index numbers.now t)) }
     {
-        let steps = self.search(goal, None);
+        let mut search = Search::new();
+        search.run(self, goal, None);
         numbers
             .iter()
-            .zip(&steps)
+            .zip(&search.steps)
             .all(|(number, steps)| *steps == Some(*number))
     }
 

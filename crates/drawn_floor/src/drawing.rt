@@ -57,7 +57,8 @@ impl<'a> Drawing<'a> {
         if self.names_itself() {
             return Err(Refusal::SelfPair);
         }
-        let marks = Marks::of(self.pairs()).ok_or(Refusal::Twice)?;
+        let mut marks = Marks::new();
+        marks.add_all(self.pairs()).ok_or(Refusal::Twice)?;
         JoinedTiles::marked(self.size, &marks).ok_or(Refusal::Crowded)
     }
 

@@ -1,4 +1,4 @@
-ghost use Rattle.std.specs.Prelude.{◌≡◌, ℕ, ◌≤◌, true, false, ◌&&◌, ◌||◌, ◌==◌, length, IfSome, MatchOption, nat_lt};
+ghost use Rattle.std.specs.Prelude.{◌≡◌, ℕ, ◌≤◌, true, false, [], ◌&&◌, ◌||◌, ◌==◌, length, IfSome, MatchOption, nat_lt};
 ghost use Rattle.std.specs.List.{slice_get, list_any};
 ghost use Rattle.base.specs.Lists.{below};
 ghost use Rattle.floor.specs.Links.{joins_two};
@@ -20,20 +20,28 @@ pub(crate) struct Marks {
 }
 
 impl Marks {
-    // Marks for the tiles that the pairs join; none where two pairs join the same tiles.
-    pub(crate) fn of(pairs: Pairs) -> Option<Marks>
-        ensures { MatchOption result (joins_again pairs.entry ≡ true) (λ m. (joins_again pairs.entry ≡ false) × Marked pairs.entry m.marks) }
+    // No two tiles are marked.
+    pub(crate) fn new() -> Marks
+        ensures { Marked [] result.marks }
     {
-        let mut marks = Marks {
+        Marks {
             marks: [[false; TILES]; TILES],
-        };
+        }
+    }
+
+    // Marks the tiles that the pairs join. The answer is none where two pairs join the same tiles; then not all are marked.
+    // To hand out marks that were written would copy them all.
+    pub(crate) fn add_all(&mut self, pairs: Pairs) -> Option<()>
+        requires { Marked [] self.old.marks }
+        ensures { MatchOption result (joins_again pairs.entry ≡ true) (λ _. (joins_again pairs.entry ≡ false) × Marked pairs.entry self.new.marks) }
+    {
         for pair in pairs {
-            if marks.has(pair) {
+            if self.has(pair) {
                 return None;
             }
-            marks.add(pair);
+            self.add(pair);
         }
-        Some(marks)
+        Some(())
     }
 
     fn has(&self, pair: (Tile, Tile)) -> bool
@@ -64,8 +72,11 @@ impl Marks {
         ensures { MatchOption result (nat_lt 6 (length (marked_to size self.now.marks tile)) ≡ true) (λ row. (nat_lt 6 (length (marked_to size self.now.marks tile)) ≡ false) × Rowed (marked_to size self.now.marks tile) row) }
     {
         let mut joined: ArrayVec<Tile, MOST> = ArrayVec::new();
-        for other in (0..size).filter(|other| self.has((tile, *other))) {
-            joined.try_push(other).ok()?;
+        // Not by `filter`: with it this loop takes three times as long.
+        for other in 0..size {
+            if self.has((tile, other)) {
+                joined.try_push(other).ok()?;
+            }
         }
         let joined = joined.as_slice();
         Some(array::from_fn(

@@ -1,18 +1,14 @@
-ghost use Rattle.std.specs.Prelude.{◌≡◌, ◌+◌, ◌<◌, ◌≤◌, length, replicate, None};
+ghost use Rattle.std.specs.Prelude.{◌≡◌, ◌+◌, ◌<◌, ◌≤◌, ◌++◌, length, slice_index};
 ghost use Rattle.drawn_floor.specs.Searches.{left_out, Passes, Filled};
-ghost use Rattle.drawn_floor.specs.Spreading.{Behind, HasRoom, Meets, Spreads, unmet};
+ghost use Rattle.drawn_floor.specs.Spreading.{Behind, HasRoom, IsNew, Meets, Spreads, layer_of, unmet};
 
 use crate::joined_tiles::{JoinedTiles, TILES};
 use arrayvec::ArrayVec;
 use floor::{Pull, Tile};
-use std::mem;
 
 // How many steps each tile is from the goal of a search; none where the search has not met it. An array, since a survey
 // cannot fail for want of memory.
-pub(crate) type Steps = [Option<Pull>; TILES];
-
-// Tiles that are equally far from a goal.
-type Layer = ArrayVec<Tile, TILES>;
+type Steps = [Option<Pull>; TILES];
 
 // The ways that a search may go: to the joined tiles of a table, but not from one tile of the pair `cut` to the other.
 #[derive(Clone, Copy)]
@@ -23,54 +19,77 @@ struct Ways<'a> {
 
 // A search that spreads from its goal, layer by layer.
 #[derive(Drop)]
-struct Search {
-    steps: Steps,
-    // the steps of the tiles that the search met last, and these tiles
+pub(crate) struct Search {
+    pub(crate) steps: Steps,
+    // the tiles that the search has met, in the order in which it met them
+    met: ArrayVec<Tile, TILES>,
+    // the tiles that it met last, its layer, are all but the first `nearer` of these, and are `far` steps from the goal
+    nearer: usize,
     far: Pull,
-    layer: Layer,
-}
-
-impl JoinedTiles {
-    // For each tile the steps of a shortest walk to `goal` that does not use the pair `cut`; none where there is no walk.
-    pub(crate) fn search(&self, goal: Tile, cut: Option<(Tile, Tile)>) -> Steps
-        ensures { Filled (Passes self.now.tiles cut) goal result }
-    {
-        let ways = Ways { joined: self, cut };
-        let mut search = Search::begun(goal);
-        while !search.layer.is_empty() {
-            search.spread(ways);
-        }
-        search.steps
-    }
 }
 
 impl Search {
-    // A search that has met its goal alone.
-    fn begun(goal: Tile) -> Search
-        ensures far { result.far ≡ 0 }
-        ensures spreads { Spreads (λ u. u ≡ goal) 0 (replicate 256 None) result.steps result.layer.items }
+    // A search that has met no tile.
+    pub(crate) fn new() -> Search
+        ensures { IsNew result }
     {
-        let mut search = Search {
+        Search {
             steps: [None; TILES],
+            met: ArrayVec::new(),
+            nearer: 0,
             far: 0,
-            layer: ArrayVec::new(),
-        };
-        search.meet(goal);
-        search
+        }
+    }
+
+    // Finds for each tile the steps of a shortest walk to `goal` that does not use the pair `cut`; none where there is no
+    // walk. They are read where the search keeps them: what was written is copied when it is handed out.
+    pub(crate) fn run(&mut self, joined: &JoinedTiles, goal: Tile, cut: Option<(Tile, Tile)>)
+        requires { IsNew self.old }
+        ensures long { length self.new.steps ≡ 256 }
+        ensures found { Filled (Passes joined.now.tiles cut) goal self.new.steps }
+    {
+        let ways = Ways { joined, cut };
+        self.meet(goal);
+        while self.nearer < self.count() {
+            self.spread(ways);
+        }
     }
 
     // Meets the tiles that are joined to those of the layer, which become the next layer.
     fn spread(&mut self, ways: Ways)
-        requires few { self.old.far + (unmet self.old.steps + length self.old.layer.items) ≤ 256 }
-        requires some { 0 < length self.old.layer.items }
+        requires room { HasRoom self.old }
+        requires few { self.old.far + (unmet self.old.steps + length (layer_of self.old)) ≤ 256 }
+        requires some { self.old.nearer < length self.old.met.items }
         ensures far { self.new.far ≡ self.old.far + 1 }
-        ensures spreads { Spreads (Behind (Passes ways.entry.joined.now.tiles ways.entry.cut) self.old.layer.items) self.new.far self.old.steps self.new.steps self.new.layer.items }
+        ensures nearer { self.new.nearer ≡ length self.old.met.items }
+        ensures met { self.new.met.items ≡ self.old.met.items ++ layer_of self.new }
+        ensures spreads { Spreads (Behind (Passes ways.entry.joined.now.tiles ways.entry.cut) (layer_of self.old)) self.new.far self.old.steps self.new.steps (layer_of self.new) }
     {
-        let layer = mem::replace(&mut self.layer, ArrayVec::new());
+        // One list holds every layer: a list for each would be cleared and copied at each step of the search.
+        let first = self.nearer;
+        let end = self.count();
+        self.nearer = end;
         self.far += 1;
-        for tile in layer.as_slice() {
-            self.meet_joined(ways, *tile);
+        for place in first..end {
+            let tile = self.tile_at(place);
+            self.meet_joined(ways, tile);
         }
+    }
+
+    // How many tiles the search has met. Asked for through `&self`, as the next one: the check does not cover a field that
+    // is lent from behind `&mut self`.
+    fn count(&self) -> usize
+        ensures { result ≡ length self.now.met.items }
+    {
+        self.met.len()
+    }
+
+    // The tile at a place of the list of met tiles.
+    fn tile_at(&self, place: usize) -> Tile
+        requires { place < length self.now.met.items }
+        ensures { result ≡ slice_index self.now.met.items place }
+    {
+        self.met[place]
     }
 
     // Meets the tiles that are joined to `tile`, but not by the pair `cut`.
@@ -95,7 +114,7 @@ impl Search {
     {
         if self.steps[usize::from(tile)].is_none() {
             self.steps[usize::from(tile)] = Some(self.far);
-            self.layer.push(tile);
+            self.met.push(tile);
         }
     }
 }
@@ -104,5 +123,5 @@ impl Search {
 fn is_left_out(cut: Option<(Tile, Tile)>, a: Tile, b: Tile) -> bool
     ensures { result ≡ left_out cut a b }
 {
-    cut == Some((a, b)) || cut == Some((b, a))
+    cut.is_some_and(|(x, y)| (x == a && y == b) || (x == b && y == a))
 }

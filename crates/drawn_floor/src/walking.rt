@@ -4,6 +4,7 @@ ghost use Rattle.drawn_floor.specs.Searches.{Passes};
 
 use crate::joined_tiles::JoinedTiles;
 use crate::links::Pairs;
+use crate::search::Search;
 use floor::Tile;
 
 impl JoinedTiles {
@@ -11,7 +12,9 @@ impl JoinedTiles {
     pub(crate) fn is_split(&self) -> bool
         ensures { Decides result ((t : ℕ) × (t < self.now.size) × ((k : ℕ) → Walk (Passes self.now.tiles None) t 0 k → ⊥)) }
     {
-        self.search(0, None)[..usize::from(self.size)].contains(&None)
+        let mut search = Search::new();
+        search.run(self, 0, None);
+        search.steps[..usize::from(self.size)].contains(&None)
     }
 
     // Whether a walk leads from one tile of a pair to the other without going from one to the other at once. If so, the
@@ -20,7 +23,9 @@ impl JoinedTiles {
         ensures { Decides result ((k : ℕ) × Walk (Passes self.now.tiles (Some pair)) pair.0 pair.1 k) }
     {
         let (a, b) = pair;
-        self.search(b, Some(pair))[usize::from(a)].is_some()
+        let mut search = Search::new();
+        search.run(self, b, Some(pair));
+        search.steps[usize::from(a)].is_some()
     }
 
     // Whether some pair is in no ring.

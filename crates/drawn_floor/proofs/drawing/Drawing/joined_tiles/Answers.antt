@@ -11,6 +11,6 @@ returns-clause-answer c =
     let n = c.args.self.now.size in
     let links = c.args.self.now.links.now in
     let ps = pairs_of links in
-    let told = rw (c.in_ok-marks.ensures.ok_part, c.pairs.ensures) at c.of.ensures in
-    let crowded = subst (λ joined_to. MatchOption c.marked.result (list_any (λ t. ltb 6 (length (joined_to t))) (below n) ≡ true) (λ _. list_any (λ t. ltb 6 (length (joined_to t))) (below n) ≡ false)) (marked_linked n ps c.in_ok-marks.marks.marks told.1) c.marked.ensures.crowded in
+    let told = rw (c.in_ok-ok_or.ensures.ok_part, c.pairs.ensures) at c.add_all.ensures in
+    let crowded = subst (λ joined_to. MatchOption c.marked.result (list_any (λ t. ltb 6 (length (joined_to t))) (below n) ≡ true) (λ _. list_any (λ t. ltb 6 (length (joined_to t))) (below n) ≡ false)) (marked_linked n ps c.add_all.new.self.marks told.1) c.marked.ensures.crowded in
     grind (arith, common_steps)

@@ -1,15 +1,15 @@
-use Rattle.std.proofs.Common.{◌≡◌, ◌+◌, ◌-◌, ◌*◌, ◌≤◌, length, get_or, None, ap, refl, ◌∙◌, subst, inl, inr, arith, rules}
+use Rattle.std.proofs.Common.{◌≡◌, ◌+◌, ◌-◌, ◌*◌, ◌≤◌, length, drop, get_or, None, sym, ap, refl, ◌∙◌, subst, inl, inr, arith, rules}
 use borrow.Rule.Slice.PartMut.{put_mid}
-use Rattle.std.proofs.lemmas.List.{places}
+use Rattle.std.proofs.lemmas.List.{places, get_or-take, get_or-drop}
 use Rattle.std.proofs.lemmas.Slice.{drop-put_mid}
 use Rattle.std.proofs.lemmas.Bool.{cases_lt}
 use Rattle.floor.specs.Walks.{Shortest}
-use Rattle.drawn_floor.specs.Searches.{Passes}
-use Rattle.drawn_floor.proofs.Measuring.{product, row_end, row_before}
+use Rattle.drawn_floor.specs.Searches.{IsCutOff, Passes}
+use Rattle.drawn_floor.proofs.Measuring.{product, row_end, row_before, row_after}
 use Rattle.drawn_floor.proofs.joined_tiles.JoinedTiles.measure.Goals as goal
 
 pub loop-goal-init : goal.loop-goal-init
-loop-goal-init c = (λ g t d l k short. absurd (omega arith), refl)
+loop-goal-init c = (λ g t d l k short. absurd (omega arith), refl, λ g t l k cut. refl)
 
 pub slice_bounds-measure_to-end : goal.slice_bounds-measure_to-end
 slice_bounds-measure_to-end c =
@@ -42,10 +42,28 @@ loop-goal-preserved c =
         | inr more ↦
             let is : g ≡ goal = omega arith in
             let same : get_or new (goal * n + t) 0 ≡ get_or row t 0 = search (rules, places) in
-            ap (λ z. get_or new (z * n + t) 0) is ∙ same ∙ c.measure_to.ensures t d b (subst (λ z. Shortest Goes t z d) is short)
+            ap (λ z. get_or new (z * n + t) 0) is ∙ same ∙ c.measure_to.ensures.found t d b (subst (λ z. Shortest Goes t z d) is short)
       ],
       drop-put_mid base (base + wide - base) old row (n * n) (omega arith) (omega arith) (omega arith) ∙ c.loop-goal.invariant.1,
+      λ g t a b cut. elim (cases_lt g goal) [
+        | inl less ↦
+            let before = row_before n goal g t less b in
+            let same : get_or new (g * n + t) 0 ≡ get_or old (g * n + t) 0 = search (rules, places) in
+            same ∙ c.loop-goal.invariant.2 g t a b cut
+        | inr more ↦ elim (cases_lt goal g) [
+          | inl less ↦
+              let after = row_after n goal g t less in
+              let same : get_or new (g * n + t) 0 ≡ get_or old (g * n + t) 0 = search (rules, places) in
+              same ∙ c.loop-goal.invariant.2 g t a b cut
+          | inr not_more ↦
+              let is : g ≡ goal = omega arith in
+              let same : get_or new (goal * n + t) 0 ≡ get_or row t 0 = search (rules, places) in
+              let kept = c.measure_to.ensures.kept t b (subst (λ z. IsCutOff c.args.self.now.tiles t z) is cut) in
+              let part = get_or-take (base + wide - base) (drop base old) t 0 (omega arith) ∙ get_or-drop base old t 0 ∙ ap (λ z. get_or old (z + t) 0) (start ∙ sym (ap (λ z. z * n) is)) in
+              ap (λ z. get_or new (z * n + t) 0) is ∙ same ∙ kept ∙ part ∙ c.loop-goal.invariant.2 g t a b cut
+        ]
+      ],
     )
 
 pub returns : goal.returns
-returns c = record { found = λ g t d a b. c.loop-goal.invariant.0 g t d (omega arith) b; beyond = c.loop-goal.invariant.1 }
+returns c = record { found = λ g t d a b. c.loop-goal.invariant.0 g t d (omega arith) b; kept = c.loop-goal.invariant.2; beyond = c.loop-goal.invariant.1 }

@@ -1,33 +1,45 @@
-use Rattle.std.proofs.Common.{◌≡◌, ◌≤◌, length, ltb, true, None, sym, ap, ◌∙◌, rules, arith, tests}
-use Rattle.std.specs.List.{slice_get, filter, range_with_len}
+use Rattle.std.proofs.Common.{◌≡◌, ◌+◌, ◌≤◌, [], ◌∷◌, ◌++◌, length, ltb, true, None, sym, ap, ◌∙◌, rules, arith, tests}
+use Rattle.std.specs.List.{slice_get}
 use Rattle.std.proofs.lemmas.Bool.{le-ltb, lt-ltb}
-use Rattle.std.proofs.lemmas.Iterator.{YieldsList, YieldsList-from_range}
-use Rattle.std.proofs.lemmas.Iterator.Consumers.{YieldsList-at, YieldsList-from_filter, YieldsList-turn, YieldsList-end}
-use Rattle.std.proofs.lemmas.List.{map-id}
+use Rattle.std.proofs.lemmas.List.{length_push}
+use Rattle.base.proofs.Numbers.{those_below_none, those_more_yes, those_more_no, length-those_le}
 use Rattle.drawn_floor.specs.Marks.{marked, marked_to}
-use Rattle.drawn_floor.proofs.Tabling.{from_fn_at, rowed, those_filtered}
-use Rattle.drawn_floor.proofs.marks.Marks.row.Given as given
+use Rattle.drawn_floor.proofs.Tabling.{from_fn_at, rowed}
 use Rattle.drawn_floor.proofs.marks.Marks.row.Goals as goal
+use Rattle.drawn_floor.proofs.marks.Marks.row.Goals.{then-has+in_ok-ok, else-has}
+
+pub loop-other-init : goal.loop-other-init
+loop-other-init c = c.new-joined.ensures ∙ sym (those_below_none (marked c.args.self.now.marks c.args.tile))
 
 pub returns-in_err-ok : goal.returns-in_err-ok
 returns-in_err-ok c =
     let test = marked c.args.self.now.marks c.args.tile in
-    let n = c.args.size in
-    let road : YieldsList (given.iterator-loop-other).next_gives (λ x. x) c.into_iter-other-iterator.result (filter test (range_with_len 0 n)) = YieldsList-at c.into_iter-other-iterator.ensures.into_iter_gives (YieldsList-from_filter _ test (YieldsList-from_range 0 n n c.filter-other-items.ensures.source (omega arith)) c.filter-other-items.ensures.closure (λ x b q k. search (rules, tests))) in
-    let turn = YieldsList-turn road c.loop-other.yielded c.loop-other.other-iterator c.loop-other.yielded_by c.next.result c.next.new.self c.in-Some.other c.in-Some.is c.next.ensures.steps in
+    let other = c.loop-other.other in
     let full : length c.loop-other.joined.items ≡ 6 = search rules in
-    let e : ltb 6 (length (marked_to n c.args.self.now.marks c.args.tile)) ≡ true = lt-ltb 6 _ (omega (arith, full, ap length c.loop-other.invariant, turn.0, ap length (those_filtered test n))) in
+    let one-more = those_more_yes test other (sym c.has.ensures ∙ c.if-has.true) in
+    let few = length-those_le test (other + 1) c.args.size (omega (arith, c.loop-other-test.true)) in
+    let e : ltb 6 (length (marked_to c.args.size c.args.self.now.marks c.args.tile)) ≡ true =
+    lt-ltb 6 _ (omega (arith, full, ap length c.loop-other.invariant, ap length one-more, length_push (marked_to other c.args.self.now.marks c.args.tile) other, few)) in
     rw c.from_residual.ensures e
+
+pub loop-other-preserved : goal.loop-other-preserved
+loop-other-preserved c =
+    let test = marked c.args.self.now.marks c.args.tile in
+    let other = c.loop-other.other in
+    elim c.if-has.branch [
+      | then-has+in_ok-ok w ↦
+          let pushed : c.if-has.joined.items ≡ c.loop-other.joined.items ++ other ∷ [] = search rules in
+          pushed ∙ ap (λ xs. xs ++ other ∷ []) c.loop-other.invariant ∙ sym (those_more_yes test other (sym c.has.ensures ∙ w.if-has.true))
+      | else-has w ↦ ap (λ j. j.items) w.joined-is ∙ c.loop-other.invariant ∙ sym (those_more_no test other (sym c.has.ensures ∙ w.if-has.false))
+    ]
 
 pub returns : goal.returns
 returns c =
-    let test = marked c.args.self.now.marks c.args.tile in
-    let n = c.args.size in
-    let us = marked_to n c.args.self.now.marks c.args.tile in
-    let road : YieldsList (given.iterator-loop-other).next_gives (λ x. x) c.into_iter-other-iterator.result (filter test (range_with_len 0 n)) = YieldsList-at c.into_iter-other-iterator.ensures.into_iter_gives (YieldsList-from_filter _ test (YieldsList-from_range 0 n n c.filter-other-items.ensures.source (omega arith)) c.filter-other-items.ensures.closure (λ x b q k. search (rules, tests))) in
-    let all = YieldsList-end road c.loop-other.yielded c.loop-other.other-iterator c.loop-other.yielded_by c.next.result c.next.new.self c.in-None.is c.next.ensures.steps in
+    let marks = c.args.self.now.marks in
+    let us = marked_to c.args.size marks c.args.tile in
+    let all : c.loop-other.other ≡ c.args.size = omega (arith, c.loop-other.auto.other-end, c.loop-other-test.false) in
     let listed = c.as_slice-joined.result.now in
-    let same : listed ≡ us = c.as_slice-joined.ensures.value ∙ c.loop-other.invariant ∙ sym (map-id c.loop-other.yielded) ∙ all.0 ∙ those_filtered test n in
+    let same : listed ≡ us = c.as_slice-joined.ensures.value ∙ c.loop-other.invariant ∙ ap (λ n. marked_to n marks c.args.tile) all in
     let few : length us ≤ 6 = omega (arith, ap length same, c.as_slice-joined.ensures.fits) in (
       le-ltb 6 (length us) few,
       rowed us c.from_fn.result c.from_fn.ensures.items.long few

@@ -14,5 +14,12 @@ returns-then-is_none c =
     let steps = c.args.self.now.steps in
     let tile = c.args.tile in
     let far = c.args.self.now.far in
-    let within : tile < length steps = search rules in
-    (refl, (tile ∷ [], c.push.ensures.items, subst (λ p. Spreads (λ u. u ≡ tile) far steps (set steps p (Some far)) (tile ∷ [])) (sym c.from-then-is_none.ensures) (spreads_one steps tile far within (none_at steps c.from.ensures c.if-is_none.ensures))))
+    let within : tile < length steps = search rules in (
+      refl,
+      refl,
+      (
+        tile ∷ [],
+        c.push.ensures.items,
+        subst (λ p. Spreads (λ u. u ≡ tile) far steps (set steps p (Some far)) (tile ∷ [])) (sym c.from-then-is_none.ensures) (spreads_one steps tile far within (none_at steps c.from.ensures c.if-is_none.ensures)),
+      ),
+    )
