@@ -174,7 +174,7 @@ necked r tiles same found = subst (NeckFound r tiles) same found
 both : {a b c d : Bool} → a ≡ b → c ≡ d → ◌≡◌ {A = Bool × Bool} (a, c) (b, d)
 both {b = b} {c = c} e f = ap (λ x. (x, c)) e ∙ ap (λ y. (b, y)) f
 
--- what `Drawing::joined_tiles` made, and what the searches over it say of the links
+-- what `Drawing::fill` listed, and what the searches over it say of the links
 module _ (n m : ℕ) (links : List ℕ) (tiles : List (List (Option ℕ))) (none : None ≡ first_refusal (link_tests n links)) (made : (m ≡ n) × Tabled n (linked_to n (pairs_of links)) tiles) where
   pub split_made : (r : Bool) → Decides r ((t : ℕ) × (t < m) × ((k : ℕ) → Walk (Passes tiles None) t 0 k → ⊥)) → r ≡ is_split n (pairs_of links)
   split_made r found = split_found n links tiles (links_pass n links (sym none)) made.1 r (subst (λ l. Decides r ((t : ℕ) × (t < l) × ((k : ℕ) → Walk (Passes tiles None) t 0 k → ⊥))) made.0 found)

@@ -18,6 +18,10 @@ SixPlaces tiles = (t : ℕ) → t < 256 → length (slice_index_or tiles t []) �
 abbrev pub Tabled : ℕ → (ℕ → List ℕ) → List (List (Option ℕ)) → Type 0
 Tabled n joined_to tiles = ((t k : ℕ) → t < n → at_place tiles t k ≡ slice_get (joined_to t) k) × ((t k : ℕ) → n ≤ t → at_place tiles t k ≡ None)
 
+-- no place holds a tile
+abbrev pub IsBare : List (List (Option ℕ)) → Type 0
+IsBare tiles = (t k : ℕ) → at_place tiles t k ≡ None
+
 -- u stands at one of the places of t
 abbrev pub Listed : List (List (Option ℕ)) → ℕ → ℕ → Type 0
 Listed tiles t u = (k : ℕ) × (at_place tiles t k ≡ Some u)

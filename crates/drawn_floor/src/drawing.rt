@@ -3,7 +3,7 @@ ghost use Rattle.std.specs.Result.{result_err};
 ghost use Rattle.base.specs.Refusals.{first_refusal};
 ghost use Rattle.floor.specs.Links.{pairs_of, linked_to};
 ghost use Rattle.floor.specs.Survey.{names_stranger, names_itself, link_tests, drawing_refusal};
-ghost use Rattle.drawn_floor.specs.Tables.{Tabled};
+ghost use Rattle.drawn_floor.specs.Tables.{IsBare, Tabled};
 
 use crate::joined_tiles::JoinedTiles;
 use crate::links::Pairs;
@@ -40,14 +40,15 @@ impl<'a> Drawing<'a> {
         self.pairs().any(is_self_pair)
     }
 
-    // The tiles that the links join, where the links pass the tests that need no walk.
-    fn joined_tiles(&self) -> Result<JoinedTiles, Refusal>
+    // Fills a bare table with the tiles that the links join, where the links pass the tests that need no walk. Else the
+    // answer is the test that refuses, and the table may hold some of them. A table has a size that passes already.
+    fn fill(&self, joined: &mut JoinedTiles) -> Result<(), Refusal>
+        requires size { joined.old.size ≡ self.now.size }
+        requires none { IsBare joined.old.tiles }
         ensures answer { result_err result ≡ first_refusal (link_tests self.now.size self.now.links.now) }
-        ensures made { IfOk result (λ j. (j.size ≡ self.now.size) × Tabled self.now.size (linked_to self.now.size (pairs_of self.now.links.now)) j.tiles) }
+        ensures size { joined.new.size ≡ self.now.size }
+        ensures made { IfOk result (λ _. Tabled self.now.size (linked_to self.now.size (pairs_of self.now.links.now)) joined.new.tiles) }
     {
-        if self.size < 3 {
-            return Err(Refusal::Size);
-        }
         if self.links.len() % 2 == 1 {
             return Err(Refusal::Ragged);
         }
@@ -59,7 +60,7 @@ impl<'a> Drawing<'a> {
         }
         let mut marks = Marks::new();
         marks.add_all(self.pairs()).ok_or(Refusal::Twice)?;
-        JoinedTiles::marked(self.size, &marks).ok_or(Refusal::Crowded)
+        joined.list(&marks).ok_or(Refusal::Crowded)
     }
 
     // The tiles that the links join, where these make a floor; else why they make none.
@@ -67,7 +68,11 @@ impl<'a> Drawing<'a> {
         ensures answer { result_err result ≡ drawing_refusal self.now.size self.now.links.now }
         ensures made { IfOk result (λ j. (j.size ≡ self.now.size) × Tabled self.now.size (linked_to self.now.size (pairs_of self.now.links.now)) j.tiles) }
     {
-        let joined = self.joined_tiles()?;
+        if self.size < 3 {
+            return Err(Refusal::Size);
+        }
+        let mut joined = JoinedTiles::new(self.size);
+        self.fill(&mut joined)?;
         if joined.is_split() {
             return Err(Refusal::Split);
         }

@@ -4,7 +4,7 @@ ghost use Rattle.base.specs.Lists.{below};
 ghost use Rattle.floor.specs.Links.{joins_two};
 ghost use Rattle.floor.specs.Survey.{joins_again};
 ghost use Rattle.drawn_floor.specs.Marks.{marked, Marked, marked_to};
-ghost use Rattle.drawn_floor.specs.Tables.{Rowed, Tabled};
+ghost use Rattle.drawn_floor.specs.Tables.{IsBare, Rowed, Tabled};
 
 use crate::joined_tiles::{JoinedTiles, MOST, Row, TILES};
 use crate::links::Pairs;
@@ -88,18 +88,31 @@ impl Marks {
 }
 
 impl JoinedTiles {
-    // The tiles that are marked as joined, or none where they are more than six to some tile.
-    pub(crate) fn marked(size: Tile, marks: &Marks) -> Option<JoinedTiles>
+    // No tiles are joined.
+    pub(crate) fn new(size: Tile) -> JoinedTiles
         requires { 3 ≤ size }
-        ensures crowded { MatchOption result (list_any (λ t. nat_lt 6 (length (marked_to size marks.now.marks t))) (below size) ≡ true) (λ _. list_any (λ t. nat_lt 6 (length (marked_to size marks.now.marks t))) (below size) ≡ false) }
-        ensures made { IfSome result (λ j. (j.size ≡ size) × Tabled size (marked_to size marks.now.marks) j.tiles) }
+        ensures size { result.size ≡ size }
+        ensures none { IsBare result.tiles }
     {
-        // Not by `zip` with `&mut tiles`: of an array that such a loop wrote, a proof knows the length and no row. By
-        // `iter_mut().enumerate()` each index would be cast to a tile, which is no plainer.
-        let mut tiles = [[None; MOST]; TILES];
-        for tile in 0..size {
-            tiles[usize::from(tile)] = marks.row(size, tile)?;
+        JoinedTiles {
+            size,
+            tiles: [[None; MOST]; TILES],
         }
-        Some(JoinedTiles { size, tiles })
+    }
+
+    // Lists for each tile those that are marked as joined to it. The answer is none where they are more than six to some
+    // tile; then not all are listed. To hand out a table that was written would copy it.
+    pub(crate) fn list(&mut self, marks: &Marks) -> Option<()>
+        requires { IsBare self.old.tiles }
+        ensures size { self.new.size ≡ self.old.size }
+        ensures crowded { MatchOption result (list_any (λ t. nat_lt 6 (length (marked_to self.old.size marks.now.marks t))) (below self.old.size) ≡ true) (λ _. list_any (λ t. nat_lt 6 (length (marked_to self.old.size marks.now.marks t))) (below self.old.size) ≡ false) }
+        ensures made { IfSome result (λ _. Tabled self.old.size (marked_to self.old.size marks.now.marks) self.new.tiles) }
+    {
+        // Not by `zip` with `&mut self.tiles`: of an array that such a loop wrote, a proof knows the length and no row. By
+        // `iter_mut().enumerate()` each index would be cast to a tile, which is no plainer.
+        for tile in 0..self.size {
+            self.tiles[usize::from(tile)] = marks.row(self.size, tile)?;
+        }
+        Some(())
     }
 }

@@ -1,7 +1,0 @@
-use Rattle.std.proofs.Common.{◌≡◌, ℕ, ◌<◌, false, ltb, length}
-use Rattle.drawn_floor.specs.Marks.{marked_to}
-use Rattle.drawn_floor.specs.Tables.{SixPlaces, Tabled}
-use Rattle.drawn_floor.proofs.joined_tiles.JoinedTiles.marked.Given as goal
-
-abbrev pub invariant-loop-tile : goal.invariant-loop-tile
-invariant-loop-tile l = Tabled l.tile (marked_to l.size l.marks.marks) l.tiles × (length l.tiles ≡ 256) × SixPlaces l.tiles × ((t : ℕ) → t < l.tile → ltb 6 (length (marked_to l.size l.marks.marks t)) ≡ false)
